@@ -1,0 +1,5 @@
+pub mod Splice
+pub mod Line
+pub mod Parts
+pub mod Fold
+pub mod Each
