@@ -1,0 +1,206 @@
+//! The leaves' times beside the Rust's: the root beside the processor's, the force and the filters beside the
+//! patched model.rs. Both sides get the same inputs, and their answers are held to be alike.
+
+#[allow(dead_code)]
+#[path = "../compare/common.rs"]
+mod common;
+#[path = "../compare/design.rs"]
+mod design;
+mod measure;
+#[allow(dead_code)]
+#[path = "../target/compare/model.rs"]
+mod model;
+#[path = "../compare/power.rs"]
+mod power;
+
+use common::{alike, all_alike, Random};
+use design::LoopDesign;
+use measure::{measure, report, Measured};
+use model::inside::{self, Filters};
+use std::hint::black_box;
+
+extern "C" {
+    fn leaf_root_chain(x: *const f64, count: usize) -> f64;
+    fn leaf_root_sweep(x: *mut f64, count: usize);
+    fn leaf_force_sweep(stiffness: f64, exponent: u32, eps_r: f64, c1: f64, c0: *mut f64, count: usize);
+    fn leaf_row_run(cells: *mut f64, cell_count: usize, a: f64, block: *mut f64, block_count: usize);
+    fn leaf_loop_filter(
+        cells: *mut f64,
+        count: usize,
+        thiran_a: f64,
+        ap_a: f64,
+        loss_g: f64,
+        loss_c: f64,
+        x: f64,
+    ) -> f64;
+}
+
+/// Both sides' numbers, the inputs put back before each turn.
+struct Block {
+    inputs: Vec<f64>,
+    values: Vec<f64>,
+}
+
+impl Block {
+    fn new(inputs: Vec<f64>) -> Block {
+        Block { values: inputs.clone(), inputs }
+    }
+
+    fn ready(&mut self) {
+        self.values.copy_from_slice(&self.inputs);
+    }
+
+    /// What a side makes of the inputs.
+    fn answers(&mut self, side: impl Fn(&mut Block)) -> Vec<f64> {
+        self.ready();
+        side(self);
+        self.values.clone()
+    }
+
+    /// Measures two sides that change the values in place, once they are seen to give the same.
+    fn sweep(
+        mut self,
+        what: &str,
+        target: Option<f64>,
+        rust: impl Fn(&mut Block),
+        rattle: impl Fn(&mut Block),
+    ) -> Measured {
+        let same = all_alike(&self.answers(&rust), &self.answers(&rattle));
+        assert!(same, "{what}: the two sides differ");
+        let calls = self.inputs.len();
+        measure(what, target, calls, &mut self, Block::ready, rust, rattle)
+    }
+}
+
+// ---- root
+
+#[inline(never)]
+fn rust_root_chain(x: &[f64]) -> f64 {
+    let mut v = 0.0;
+    for x in x {
+        v = f64::sqrt(x + (v - v));
+    }
+    v
+}
+
+#[inline(never)]
+fn rust_root_sweep(x: &mut [f64]) {
+    for x in x {
+        *x = x.sqrt();
+    }
+}
+
+fn roots(rows: &mut Vec<Measured>, kind: &str, inputs: Vec<f64>, target: Option<f64>) {
+    let calls = inputs.len();
+    let rust = |x: &mut Vec<f64>| rust_root_chain(black_box(x));
+    let rattle = |x: &mut Vec<f64>| unsafe { leaf_root_chain(x.as_ptr(), x.len()) };
+    let mut chained = inputs.clone();
+    assert!(alike(rust(&mut chained), rattle(&mut chained)), "root, chain, {kind}: the two sides differ");
+    rows.push(measure(&format!("root, chain, {kind}"), target, calls, &mut chained, |_| (), rust, rattle));
+    rows.push(Block::new(inputs).sweep(
+        &format!("root, sweep, {kind}"),
+        None,
+        |b| rust_root_sweep(black_box(&mut b.values)),
+        |b| unsafe { leaf_root_sweep(b.values.as_mut_ptr(), b.values.len()) },
+    ));
+}
+
+// ---- the contact force
+
+#[inline(never)]
+fn rust_force_sweep(stiffness: f64, p: f64, eps_r: f64, c1: f64, c0: &mut [f64]) {
+    for c0 in c0 {
+        *c0 = inside::contact_force(stiffness, p, eps_r, *c0, c1);
+    }
+}
+
+/// A hammer in contact with a string, at 48 kHz: each call makes all its halvings.
+fn forces(rows: &mut Vec<Measured>, random: &mut Random) {
+    for h in 2..=10u32 {
+        let inputs: Vec<f64> = (0..128).map(|_| random.magnitude(-5.0, -3.0)).collect();
+        let (stiffness, c1) = (10f64.powf(4.0 + 0.75 * h as f64), 1.0 / 48_000.0 / (2.0 * 7.5));
+        let target = if h % 2 == 0 { 1.2 } else { 3.0 };
+        rows.push(Block::new(inputs).sweep(
+            &format!("contact_force, h = {h}"),
+            Some(target),
+            |b| rust_force_sweep(stiffness, black_box(h as f64 / 2.0), 0.0, c1, &mut b.values),
+            |b| unsafe { leaf_force_sweep(stiffness, h, 0.0, c1, b.values.as_mut_ptr(), b.values.len()) },
+        ));
+    }
+}
+
+// ---- the filters
+
+/// One string's filters on both sides, and a block of input.
+struct Strings {
+    rust: Filters,
+    cells: Vec<f64>,
+    block: Block,
+}
+
+#[inline(never)]
+fn rust_row_run(filters: &mut Filters, block: &mut [f64]) {
+    for x in block {
+        *x = filters.row(*x);
+    }
+}
+
+#[inline(never)]
+fn rust_loop_run(filters: &mut Filters, block: &mut [f64]) {
+    for x in block {
+        *x = filters.loop_filter(*x);
+    }
+}
+
+fn filters(rows: &mut Vec<Measured>, random: &mut Random) {
+    let design =
+        LoopDesign { n_total: 4, ap_count: 66, phi: 0.0, thiran_a: 0.3, ap_a: -0.6, loss_g: 0.995, loss_c: 0.1 };
+    let LoopDesign { thiran_a, ap_a, loss_g, loss_c, .. } = design;
+    let inputs: Vec<f64> = (0..256).map(|_| random.between(-1.0, 1.0)).collect();
+    let calls = inputs.len();
+    let string = |cells: usize| Strings {
+        rust: Filters::new(&design),
+        cells: vec![0.0; cells],
+        block: Block::new(inputs.clone()),
+    };
+    let (mut row, mut whole) = (string(132), string(135));
+    rows.push(measure(
+        "row of 66 stages",
+        Some(1.05),
+        calls,
+        &mut row,
+        |s| s.block.ready(),
+        |s| rust_row_run(&mut s.rust, &mut s.block.values),
+        |s| unsafe {
+            let block = &mut s.block.values;
+            leaf_row_run(s.cells.as_mut_ptr(), s.cells.len(), black_box(ap_a), block.as_mut_ptr(), block.len())
+        },
+    ));
+    rows.push(measure(
+        "loop_filter with 66 stages",
+        None,
+        calls,
+        &mut whole,
+        |s| s.block.ready(),
+        |s| rust_loop_run(&mut s.rust, &mut s.block.values),
+        |s| unsafe {
+            for x in &mut s.block.values {
+                *x = leaf_loop_filter(s.cells.as_mut_ptr(), s.cells.len(), thiran_a, ap_a, loss_g, loss_c, *x);
+            }
+        },
+    ));
+    assert!(all_alike(&row.rust.row_cells(), &row.cells), "row of 66 stages: the two sides differ");
+    assert!(all_alike(&whole.rust.cells(), &whole.cells), "loop_filter: the two sides differ");
+}
+
+fn main() {
+    let mut random = Random::new(20);
+    let mut rows = Vec::new();
+    let normal = (0..4096).map(|_| random.magnitude(-300.0, 300.0)).collect();
+    let subnormal = (0..4096).map(|_| f64::from_bits((random.bits() >> 12 >> random.below(40)) + 1)).collect();
+    roots(&mut rows, "normal numbers", normal, Some(4.0));
+    roots(&mut rows, "subnormal numbers", subnormal, None);
+    forces(&mut rows, &mut random);
+    filters(&mut rows, &mut random);
+    std::process::exit(if report(&rows) { 0 } else { 1 });
+}

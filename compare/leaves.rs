@@ -1,0 +1,489 @@
+//! Compares each proved leaf with the Rust: the root with the processor's, the power with document 01's, and the
+//! rest with the patched model.rs. With a file's name it also writes a sample of the answers there.
+
+mod common;
+mod design;
+#[allow(dead_code)]
+#[path = "../target/compare/model.rs"]
+mod model;
+mod power;
+
+use common::{alike, all_alike, edges, word, Random, Tally};
+use design::LoopDesign;
+use model::inside::{self, Filters};
+
+extern "C" {
+    fn leaf_root(x: f64) -> f64;
+    fn leaf_power(x: f64, h: u32) -> f64;
+    fn leaf_min(a: f64, b: f64) -> f64;
+    fn leaf_max(a: f64, b: f64) -> f64;
+    fn leaf_clamp(x: f64, lo: f64, hi: f64) -> f64;
+    fn leaf_positive_part(x: f64) -> f64;
+    fn leaf_round_away(x: f64) -> u64;
+    fn leaf_contact_force(
+        stiffness: f64,
+        exponent: u32,
+        eps: f64,
+        mass: f64,
+        tau: f64,
+        eps_r: f64,
+        c0: f64,
+        c1: f64,
+    ) -> f64;
+    fn leaf_cut_string(n: usize, phi: f64, strike_ratio: f64, damper_ratio: f64, lengths: &mut [usize; 3]);
+    fn leaf_allpass(cells: *mut f64, count: usize, a: f64, x: f64) -> f64;
+    fn leaf_dispersion(cells: *mut f64, count: usize, a: f64, x: f64) -> f64;
+    fn leaf_loop_filter(
+        cells: *mut f64,
+        count: usize,
+        thiran_a: f64,
+        ap_a: f64,
+        loss_g: f64,
+        loss_c: f64,
+        x: f64,
+    ) -> f64;
+}
+
+// ---- root
+
+/// Zeros are compared by their bits: either zero gives itself.
+fn root_of(tally: &mut Tally, x: f64) {
+    let (rust, rattle) = (x.sqrt(), unsafe { leaf_root(x) });
+    let agree = word(rust) == word(rattle);
+    tally.answer(agree, &[word(x)], &[word(rust)], &[word(rattle)]);
+}
+
+/// x and two floats on either side of it.
+fn root_around(tally: &mut Tally, x: f64) {
+    for step in -2..=2 {
+        root_of(tally, f64::from_bits(x.to_bits().wrapping_add_signed(step)));
+    }
+}
+
+/// The floats next to the square of the middle between two neighbours, significand and 2^-52 apart: there the
+/// root is nearest to a tie. The square has up to 108 digits, of which 53 are kept.
+fn root_at_tie(tally: &mut Tally, significand: u64, exponent: i32) {
+    let middle = 2 * significand as u128 + 1;
+    let square = middle * middle;
+    let dropped = 128 - square.leading_zeros() - 53;
+    let kept = (square >> dropped) as u64;
+    for x in kept - 1..=kept + 2 {
+        root_of(tally, x as f64 * 2f64.powi(dropped as i32 - 106 + 2 * exponent));
+    }
+}
+
+fn roots(stride: u64) -> Tally {
+    let mut tally = Tally::new("root", stride);
+    let mut random = Random::new(1);
+    for &x in edges() {
+        root_of(&mut tally, x);
+        tally.keep(&[word(x)], &[word(x.sqrt())]);
+    }
+    for _ in 0..400_000 {
+        root_of(&mut tally, random.any());
+    }
+    for field in 0..2047u64 {
+        for fraction in [0, 1, 2, (1 << 52) - 1] {
+            root_of(&mut tally, f64::from_bits(field << 52 | fraction));
+        }
+        for _ in 0..100 {
+            root_of(&mut tally, f64::from_bits(field << 52 | random.bits() >> 12));
+        }
+    }
+    for zeros in 12..64 {
+        for _ in 0..1_000 {
+            let fraction = (1 << 63 | random.bits()) >> zeros;
+            root_of(&mut tally, f64::from_bits(fraction));
+        }
+    }
+    for power in 0..2098u64 {
+        let bits = if power < 52 { 1 << power } else { (power - 51) << 52 };
+        root_around(&mut tally, f64::from_bits(bits));
+    }
+    for _ in 0..40_000 {
+        let short = (random.below(1 << 27) + 1) as f64 * 2f64.powi(random.below(960) as i32 - 500);
+        root_around(&mut tally, short * short);
+        let long = f64::from_bits((523 + random.below(1000)) << 52 | random.bits() >> 12);
+        root_around(&mut tally, long * long);
+    }
+    for _ in 0..60_000 {
+        root_at_tie(&mut tally, 1 << 52 | random.bits() >> 12, random.below(1000) as i32 - 500);
+    }
+    for near in 0..500 {
+        root_at_tie(&mut tally, (1 << 52) + near, 0);
+        root_at_tie(&mut tally, (1 << 53) - 1 - near, 0);
+    }
+    tally
+}
+
+// ---- power, and the float operations
+
+fn power_of(tally: &mut Tally, x: f64, h: u32) {
+    let (rust, rattle) = (power::power(x, h), unsafe { leaf_power(x, h) });
+    tally.answer(alike(rust, rattle), &[word(x), h as u64], &[word(rust)], &[word(rattle)]);
+}
+
+fn powers(stride: u64) -> Tally {
+    let mut tally = Tally::new("power", stride);
+    let mut random = Random::new(2);
+    for h in 0..=12 {
+        for &x in edges() {
+            power_of(&mut tally, x, h);
+        }
+        for _ in 0..10_000 {
+            power_of(&mut tally, random.any(), h);
+            power_of(&mut tally, random.magnitude(-30.0, 30.0), h);
+        }
+    }
+    for h in [13, 14, 31, 64, 65, 1000, 1001] {
+        for _ in 0..500 {
+            power_of(&mut tally, random.between(0.9, 1.1), h);
+            power_of(&mut tally, random.edge(), h);
+        }
+    }
+    tally
+}
+
+/// All pairs of edges, then random pairs.
+fn on_pairs(seed: u64, mut f: impl FnMut(f64, f64)) {
+    let mut random = Random::new(seed);
+    for &a in edges() {
+        for &b in edges() {
+            f(a, b);
+        }
+    }
+    for _ in 0..50_000 {
+        f(random.any(), random.any());
+        f(random.tame_or_wild(-10.0, 10.0), random.tame_or_wild(-10.0, 10.0));
+    }
+}
+
+fn minima(stride: u64) -> Tally {
+    let mut tally = Tally::new("min", stride);
+    on_pairs(3, |a, b| tally.float(&[a, b], a.min(b), unsafe { leaf_min(a, b) }));
+    tally
+}
+
+fn maxima(stride: u64) -> Tally {
+    let mut tally = Tally::new("max", stride);
+    on_pairs(4, |a, b| tally.float(&[a, b], a.max(b), unsafe { leaf_max(a, b) }));
+    tally
+}
+
+/// Where the Rust's clamp does not panic: its ends are in order, and neither is NaN.
+fn clamps(stride: u64) -> Tally {
+    let mut tally = Tally::new("clamp", stride);
+    let mut random = Random::new(5);
+    on_pairs(6, |lo, hi| {
+        if lo <= hi {
+            for x in [random.edge(), random.tame_or_wild(-10.0, 10.0), lo, hi] {
+                tally.float(&[x, lo, hi], x.clamp(lo, hi), unsafe { leaf_clamp(x, lo, hi) });
+            }
+        }
+    });
+    tally
+}
+
+fn positive_parts(stride: u64) -> Tally {
+    let mut tally = Tally::new("positive_part", stride);
+    on_pairs(7, |x, _| tally.float(&[x], x.max(0.0), unsafe { leaf_positive_part(x) }));
+    tally
+}
+
+fn rounded(tally: &mut Tally, x: f64) {
+    let (rust, rattle) = (x.round() as usize as u64, unsafe { leaf_round_away(x) });
+    tally.answer(rust == rattle, &[word(x)], &[rust], &[rattle]);
+}
+
+fn roundings(stride: u64) -> Tally {
+    let mut tally = Tally::new("round_away", stride);
+    let mut random = Random::new(8);
+    for &x in edges() {
+        rounded(&mut tally, x);
+    }
+    for whole in 0..20_000u64 {
+        let tie = whole as f64 + 0.5;
+        for x in [tie, tie.next_down(), tie.next_up(), whole as f64, -tie] {
+            rounded(&mut tally, x);
+        }
+    }
+    for _ in 0..50_000 {
+        rounded(&mut tally, random.any());
+        rounded(&mut tally, random.between(0.0, 4096.0));
+        let tie = (random.bits() >> 12 >> random.below(52)) as f64 + 0.5;
+        rounded(&mut tally, tie);
+        rounded(&mut tally, tie.next_down());
+        rounded(&mut tally, random.magnitude(15.0, 20.5));
+    }
+    tally
+}
+
+// ---- the contact force
+
+/// One hammer on one string. The force does not depend on eps, mass and tau, which the Rust is not given.
+struct Contact {
+    stiffness: f64,
+    exponent: u32,
+    eps_r: f64,
+    c0: f64,
+    c1: f64,
+}
+
+fn force_of(tally: &mut Tally, random: &mut Random, c: Contact) {
+    let [eps, mass, tau] = [random.any(), random.any(), random.any()];
+    let rust = inside::contact_force(c.stiffness, c.exponent as f64 / 2.0, c.eps_r, c.c0, c.c1);
+    let rattle = unsafe { leaf_contact_force(c.stiffness, c.exponent, eps, mass, tau, c.eps_r, c.c0, c.c1) };
+    let given = [word(c.stiffness), c.exponent as u64, word(c.eps_r), word(c.c0), word(c.c1)];
+    tally.answer(alike(rust, rattle), &given, &[word(rust)], &[word(rattle)]);
+}
+
+/// Felt and string as the instruments have them.
+fn ordinary(random: &mut Random, exponent: u32) -> Contact {
+    let c0 = random.magnitude(-7.0, -2.0);
+    let stiffness = random.magnitude(3.0, 13.0);
+    let eps_r = random.between(0.0, 1.2) * random.below(2) as f64 * power::power(c0, exponent);
+    Contact { stiffness, exponent, eps_r, c0, c1: random.magnitude(-8.0, -3.0) }
+}
+
+fn forces(stride: u64) -> Tally {
+    let mut tally = Tally::new("contact_force", stride);
+    let mut random = Random::new(9);
+    for exponent in 2..=10 {
+        for turn in 0..8_000 {
+            let mut c = ordinary(&mut random, exponent);
+            match turn % 8 {
+                0 => c.c0 = -c.c0,
+                1 => c.stiffness = random.magnitude(13.0, 300.0),
+                2 => c.c1 = 0.0,
+                _ => (),
+            }
+            force_of(&mut tally, &mut random, c);
+        }
+        for _ in 0..6_000 {
+            let c = Contact {
+                stiffness: random.tame_or_wild(0.0, 1e15),
+                exponent,
+                eps_r: random.tame_or_wild(0.0, 1.0),
+                c0: random.tame_or_wild(0.0, 2.0),
+                c1: random.tame_or_wild(0.0, 1.0),
+            };
+            force_of(&mut tally, &mut random, c);
+            let [stiffness, eps_r, c0, c1] = [random.any(), random.edge(), random.any(), random.edge()];
+            force_of(&mut tally, &mut random, Contact { stiffness, exponent, eps_r, c0: c0.abs(), c1 });
+        }
+    }
+    for exponent in [0, 1, 11, 12, 13, 40] {
+        for _ in 0..500 {
+            let c = ordinary(&mut random, exponent);
+            force_of(&mut tally, &mut random, c);
+        }
+    }
+    tally
+}
+
+// ---- the cuts
+
+fn cut(tally: &mut Tally, n: usize, phi: f64, strike_ratio: f64, damper_ratio: f64) {
+    let design = LoopDesign { n_total: n, phi, ..LoopDesign::default() };
+    let rust = inside::cuts(&design, strike_ratio, damper_ratio);
+    let mut rattle = [0; 3];
+    unsafe { leaf_cut_string(n, phi, strike_ratio, damper_ratio, &mut rattle) };
+    let given = [n as u64, word(phi), word(strike_ratio), word(damper_ratio)];
+    let words = |lengths: [usize; 3]| lengths.map(|length| length as u64);
+    tally.answer(rust == rattle, &given, &words(rust), &words(rattle));
+}
+
+fn cuts(stride: u64) -> Tally {
+    let mut tally = Tally::new("cuts", stride);
+    let mut random = Random::new(10);
+    for n in 0..=12 {
+        for phi in [0.0, 1.0, 3.5, 4096.0] {
+            for strike in 0..=8 {
+                for damper in 0..=8 {
+                    cut(&mut tally, n, phi, strike as f64 / 8.0, damper as f64 / 8.0);
+                }
+            }
+        }
+    }
+    for _ in 0..40_000 {
+        let n = random.below(2_001) as usize;
+        let phi = random.between(0.0, 4096.0) * random.below(2) as f64;
+        let (strike, damper) = (random.between(0.0, 1.0), random.between(0.0, 1.0));
+        cut(&mut tally, n, phi, strike, damper);
+        cut(&mut tally, random.below(8) as usize, phi, strike, damper);
+        let wild = [random.tame_or_wild(0.0, 4096.0), random.tame_or_wild(0.0, 1.0), random.tame_or_wild(0.0, 1.0)];
+        cut(&mut tally, n, wild[0], wild[1], wild[2]);
+    }
+    // beyond what a file may hold; the Rust's lines are then long
+    for _ in 0..200 {
+        let n = random.below(1_000_000) as usize;
+        cut(&mut tally, n, random.any(), random.tame_or_wild(0.0, 1.0), random.tame_or_wild(0.0, 1.0));
+    }
+    tally
+}
+
+// ---- the filters
+
+/// What stands on either side of the lent cells, and must stand there afterwards.
+const OUTSIDE: u64 = 0x4242_4242_4242_4242;
+
+/// Cells lent from the middle of a longer array.
+struct Lent {
+    all: Vec<f64>,
+    count: usize,
+}
+
+impl Lent {
+    fn new(cells: &[f64]) -> Lent {
+        let outside = [f64::from_bits(OUTSIDE); 4];
+        Lent { all: [&outside, cells, &outside].concat(), count: cells.len() }
+    }
+
+    fn pointer(&mut self) -> *mut f64 {
+        self.all[4..].as_mut_ptr()
+    }
+
+    fn cells(&self) -> &[f64] {
+        &self.all[4..4 + self.count]
+    }
+
+    fn outside_kept(&self) -> bool {
+        self.all[..4].iter().chain(&self.all[4 + self.count..]).all(|x| x.to_bits() == OUTSIDE)
+    }
+}
+
+/// What a filter is given and gives, as words: coefficients and input, then the cells; the output, then the cells.
+fn filter_words(numbers: &[f64], cells: &[f64]) -> Vec<u64> {
+    numbers.iter().chain(cells).map(|x| word(*x)).collect()
+}
+
+/// One step of a filter: the cells it was lent, its coefficients and its input, then what both sides give.
+struct Step<'a> {
+    before: &'a [f64],
+    numbers: &'a [f64],
+    rust: f64,
+    rust_cells: &'a [f64],
+    rattle: f64,
+    lent: &'a Lent,
+}
+
+fn filtered(tally: &mut Tally, s: Step) {
+    let cells = s.lent.cells();
+    let agree = alike(s.rust, s.rattle) && all_alike(s.rust_cells, cells) && s.lent.outside_kept();
+    let given = filter_words(s.numbers, s.before);
+    tally.answer(agree, &given, &filter_words(&[s.rust], s.rust_cells), &filter_words(&[s.rattle], cells));
+}
+
+/// Coefficients and cells: tame in seven turns of eight.
+fn filter_numbers<const N: usize>(random: &mut Random) -> [f64; N] {
+    let wild = random.below(8) == 0;
+    std::array::from_fn(|_| if wild { random.tame_or_wild(-1.0, 1.0) } else { random.between(-1.0, 1.0) })
+}
+
+fn filter_cells(random: &mut Random, count: usize) -> Vec<f64> {
+    let scale = [0.0, 1.0, 1.0, 1e-300, 1e300][random.below(5) as usize];
+    (0..count).map(|_| scale * random.between(-1.0, 1.0)).collect()
+}
+
+fn allpasses(stride: u64) -> Tally {
+    let mut tally = Tally::new("allpass", stride);
+    let mut random = Random::new(11);
+    for _ in 0..4_000 {
+        let [a] = filter_numbers(&mut random);
+        let mut lent = Lent::new(&filter_cells(&mut random, 2));
+        let mut rust = Filters::new(&LoopDesign { n_total: 4, thiran_a: a, ..LoopDesign::default() });
+        rust.set_thiran(lent.cells());
+        for _ in 0..25 {
+            let [x] = filter_numbers(&mut random);
+            let before = lent.cells().to_vec();
+            let rattle = unsafe { leaf_allpass(lent.pointer(), 2, a, x) };
+            let y = rust.thiran(x);
+            let rust_cells = rust.thiran_cells();
+            let step =
+                Step { before: &before, numbers: &[a, x], rust: y, rust_cells: &rust_cells, rattle, lent: &lent };
+            filtered(&mut tally, step);
+        }
+    }
+    tally
+}
+
+/// An odd last cell belongs to no stage: it stays as it was.
+fn rows(stride: u64) -> Tally {
+    let mut tally = Tally::new("dispersion", stride);
+    let mut random = Random::new(12);
+    for count in (0..=132).step_by(2).chain([1, 3, 7, 131, 133]) {
+        for _ in 0..25 {
+            let [a] = filter_numbers(&mut random);
+            let mut lent = Lent::new(&filter_cells(&mut random, count));
+            let design = LoopDesign { n_total: 4, ap_count: count / 2, ap_a: a, ..LoopDesign::default() };
+            let mut rust = Filters::new(&design);
+            rust.set_row(lent.cells());
+            for _ in 0..20 {
+                let [x] = filter_numbers(&mut random);
+                let before = lent.cells().to_vec();
+                let rattle = unsafe { leaf_dispersion(lent.pointer(), count, a, x) };
+                let y = rust.row(x);
+                let mut rust_cells = rust.row_cells();
+                rust_cells.extend(&before[count / 2 * 2..]);
+                let step =
+                    Step { before: &before, numbers: &[a, x], rust: y, rust_cells: &rust_cells, rattle, lent: &lent };
+                filtered(&mut tally, step);
+            }
+        }
+    }
+    tally
+}
+
+fn loop_filters(stride: u64) -> Tally {
+    let mut tally = Tally::new("loop_filter", stride);
+    let mut random = Random::new(13);
+    for ap_count in 0..=66 {
+        for _ in 0..25 {
+            let [thiran_a, ap_a, loss_g, loss_c] = filter_numbers(&mut random);
+            let count = 2 * ap_count + 3;
+            let mut lent = Lent::new(&filter_cells(&mut random, count));
+            let design = LoopDesign { n_total: 4, ap_count, phi: 0.0, thiran_a, ap_a, loss_g, loss_c };
+            let mut rust = Filters::new(&design);
+            rust.set_thiran(&lent.cells()[..2]);
+            rust.set_row(&lent.cells()[2..count - 1]);
+            rust.set_loss(lent.cells()[count - 1]);
+            for _ in 0..20 {
+                let [x] = filter_numbers(&mut random);
+                let before = lent.cells().to_vec();
+                let rattle = unsafe { leaf_loop_filter(lent.pointer(), count, thiran_a, ap_a, loss_g, loss_c, x) };
+                let y = rust.loop_filter(x);
+                let numbers = [thiran_a, ap_a, loss_g, loss_c, x];
+                let rust_cells = rust.cells();
+                let step =
+                    Step { before: &before, numbers: &numbers, rust: y, rust_cells: &rust_cells, rattle, lent: &lent };
+                filtered(&mut tally, step);
+            }
+        }
+    }
+    tally
+}
+
+fn main() {
+    let sample = std::env::args().nth(1);
+    let stride = |one_in: u64| if sample.is_some() { one_in } else { 0 };
+    let tallies = [
+        roots(stride(1_700)),
+        powers(stride(1_000)),
+        minima(stride(1_000)),
+        maxima(stride(1_000)),
+        clamps(stride(1_500)),
+        positive_parts(stride(2_000)),
+        roundings(stride(2_000)),
+        forces(stride(500)),
+        cuts(stride(500)),
+        allpasses(stride(800)),
+        rows(stride(3_000)),
+        loop_filters(stride(2_900)),
+    ];
+    if let Some(file) = sample {
+        let lines: Vec<&str> = tallies.iter().flat_map(|t| &t.kept).map(String::as_str).collect();
+        std::fs::write(&file, lines.join("\n") + "\n").unwrap_or_else(|e| panic!("{file}: {e}"));
+    }
+    let differing = tallies.iter().filter(|t| !t.report()).count();
+    std::process::exit(if differing == 0 { 0 } else { 1 });
+}

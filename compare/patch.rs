@@ -1,0 +1,59 @@
+//! Writes the Rust renderer that we compare with: `patch FROM TO` reads model.rs and changes it only where
+//! document 01 says that we part from it. Each change must fit exactly as often as it is expected to.
+
+use std::process::exit;
+
+struct Patch {
+    /// The sentence of document 01 that asks for the change.
+    reason: &'static str,
+    from: &'static str,
+    to: &'static str,
+    times: usize,
+}
+
+const PATCHES: [Patch; 2] = [
+    Patch {
+        reason: "`powf` is replaced, also in the Rust that we compare with",
+        from: ".powf(",
+        to: ".power_in_half_steps(",
+        times: 3,
+    },
+    Patch {
+        reason: "φ replaces `filter_delay`, which needs arctangents",
+        from: "d.filter_delay(d.fs, d.f0)",
+        to: "d.phi",
+        times: 1,
+    },
+];
+
+/// A child module sees the private items of its parent; a `use` may stand anywhere in a module.
+const APPENDED: &str = "
+use crate::power::PowerInHalfSteps;
+#[path = \"../../compare/inside.rs\"]
+pub mod inside;
+";
+
+fn fail(message: String) -> ! {
+    eprintln!("patch: {message}");
+    exit(1)
+}
+
+fn main() {
+    let arguments: Vec<String> = std::env::args().collect();
+    let [_, from, to] = arguments.as_slice() else {
+        fail("usage: patch FROM TO".to_string());
+    };
+    let mut text = std::fs::read_to_string(from).unwrap_or_else(|e| fail(format!("{from}: {e}")));
+    for patch in &PATCHES {
+        let found = text.matches(patch.from).count();
+        if found != patch.times {
+            fail(format!(
+                "{from}: `{}` stands there {found} times, not {} ({})",
+                patch.from, patch.times, patch.reason
+            ));
+        }
+        text = text.replace(patch.from, patch.to);
+    }
+    text.push_str(APPENDED);
+    std::fs::write(to, text).unwrap_or_else(|e| fail(format!("{to}: {e}")));
+}

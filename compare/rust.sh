@@ -1,0 +1,37 @@
+# Sourced at the repository's root by the scripts that build the Rust renderer beside the proved one.
+# The Rust is read where it lies and never copied into the repository: only target/ holds the patched file.
+
+rust_source=${GINGERFILE_RUST_SRC:-../shared/docs/src/src}
+
+# rust_at_hand WHAT: says so and returns 1 where the source or the compiler is missing.
+rust_at_hand() {
+    if [ ! -f "$rust_source/model.rs" ]; then
+        echo "$1 skipped: there is no $rust_source/model.rs (GINGERFILE_RUST_SRC names another folder)"
+        return 1
+    fi
+    if ! command -v rustc >/dev/null; then
+        echo "$1 skipped: there is no rustc"
+        return 1
+    fi
+}
+
+# patched_model: makes target/compare/model.rs.
+patched_model() {
+    mkdir -p target/compare
+    rustc --edition 2021 -o target/compare/patch compare/patch.rs
+    target/compare/patch "$rust_source/model.rs" target/compare/model.rs
+}
+
+# proved_library NAME: makes target/staticlib/libNAME.a; prints what rt said only where it fails.
+proved_library() {
+    rt staticlib "$1" >target/compare/staticlib.log 2>&1 || {
+        cat target/compare/staticlib.log
+        return 1
+    }
+}
+
+# rust_program SOURCE NAME LIBRARY: makes target/compare/NAME, linked with the proved library.
+# No fast-math and no target-cpu: every operation is rounded once, as in the proved code.
+rust_program() {
+    rustc --edition 2021 -C opt-level=3 -o "target/compare/$2" "$1" -L native=target/staticlib -l "static=$3"
+}

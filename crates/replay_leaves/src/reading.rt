@@ -1,0 +1,113 @@
+// A stored answer is a line: the kind's name, then words of sixteen hexadecimal digits, a space
+// before each. Whatever else stands there is unreadable.
+ghost use Prim.Native.Nat.{_≤_};
+ghost use lib.ListN.{length};
+
+pub enum Word {
+    Of(u64),
+    Not,
+}
+
+pub enum Words {
+    Count(usize),
+    Unreadable,
+}
+
+fn wide(b: u8) -> u64 {
+    b as u64
+}
+
+// The value of a digit as the file has them; 16 where it is none.
+fn digit(b: u8) -> u64 {
+    if b'0' <= b && b <= b'9' {
+        wide(b - b'0')
+    } else if b'a' <= b && b <= b'f' {
+        wide(b - b'a' + 10)
+    } else {
+        16
+    }
+}
+
+// A space and sixteen digits.
+fn read_word(text: &[u8]) -> Word {
+    if text.len() != 17 {
+        return Word::Not;
+    }
+    if text[0] != b' ' {
+        return Word::Not;
+    }
+    let mut value: u64 = 0;
+    for i in 1usize..17usize {
+        let d = digit(text[i]);
+        if d == 16 {
+            return Word::Not;
+        }
+        value = (value << 4) | d;
+    }
+    Word::Of(value)
+}
+
+// All words of what follows a name, into the first places.
+pub fn read_words(text: &[u8], words: &mut [u64]) -> Words {
+    let mut n: usize = 0;
+    let mut at: usize = 0;
+    while at < text.len() {
+        if text.len() - at < 17 {
+            return Words::Unreadable;
+        }
+        if words.len() <= n {
+            return Words::Unreadable;
+        }
+        let Word::Of(value) = read_word(&text[at..at + 17]) else {
+            return Words::Unreadable;
+        };
+        words[n] = value;
+        n += 1;
+        at += 17;
+    }
+    Words::Count(n)
+}
+
+// Whether a line begins with a name.
+pub fn starts(line: &[u8], name: &[u8]) -> bool {
+    if line.len() < name.len() {
+        return false;
+    }
+    let mut i: usize = 0;
+    while i < name.len() {
+        if line[i] != name[i] {
+            return false;
+        }
+        i += 1;
+    }
+    true
+}
+
+// The place of the first such byte from `at` on, or the end.
+fn find(text: &[u8], at: usize, b: u8) -> usize
+    requires { ⌜ at ≤ length (now text) ⌝ }
+    ensures { λ r. ⌜ (at ≤ r) × (r ≤ length (now (text .entry))) ⌝ }
+{
+    let mut i = at;
+    while i < text.len() {
+        if text[i] == b {
+            return i;
+        }
+        i += 1;
+    }
+    i
+}
+
+// The end of the line that begins at `at`.
+pub fn line_end(text: &[u8], at: usize) -> usize
+    requires { ⌜ at ≤ length (now text) ⌝ }
+    ensures { λ r. ⌜ (at ≤ r) × (r ≤ length (now (text .entry))) ⌝ }
+{
+    find(text, at, b'\n')
+}
+
+// What follows the name.
+pub fn rest(line: &[u8]) -> &[u8] {
+    let space = find(line, 0, b' ');
+    &line[space..]
+}
