@@ -1,0 +1,13 @@
+pub mod Encode
+pub mod Parts
+pub mod Real
+pub mod Chain
+pub mod Sections
+pub mod Accepted
+pub mod Rewritten
+pub mod Typed
+pub mod FieldsBack
+pub mod Placed
+pub mod Reread
+pub mod Written
+pub mod Files

@@ -1,0 +1,95 @@
+// Document 01, "Instrument file": "Little-endian." Whole numbers and floats at a place in lent bytes, for every place: past the end the bytes count as 0.
+ghost use mathlib.Core.Path.{_≡_};
+ghost use lib.Ieee.{binary64, ofBits};
+ghost use lib.ListN.{take, drop};
+ghost use Rattle.little_endian.specs.Numbers.{byteAt, u16At, u32At, u64At, f64At};
+
+// At most n bytes from p on: fewer where the bytes end before.
+pub fn part(f: &[u8], p: usize, n: usize) -> &[u8]
+    ensures { λ r. ⌜ now r ≡ take n (drop p (now (f .entry))) ⌝ }
+{
+    let end = f.len();
+    if end <= p {
+        return &f[end..end];
+    }
+    if end - p <= n {
+        return &f[p..end];
+    }
+    let stop = p + n;
+    &f[p..stop]
+}
+
+pub fn byte_at(f: &[u8], p: usize) -> u8
+    ensures { λ r. ⌜ r ≡ byteAt (now (f .entry)) p ⌝ }
+{
+    if p < f.len() { f[p] } else { 0 }
+}
+
+fn widen_8(x: u8) -> u16
+    ensures { λ r. ⌜ r ≡ x ⌝ }
+{
+    x as u16
+}
+
+// A place past the end is answered first, so that no sum of places can wrap.
+pub fn u16_at(f: &[u8], p: usize) -> u16
+    ensures { λ r. ⌜ r ≡ u16At (now (f .entry)) p ⌝ }
+{
+    if f.len() <= p {
+        return 0;
+    }
+    let low = widen_8(byte_at(f, p));
+    let high = widen_8(byte_at(f, p + 1));
+    low + 0x100 * high
+}
+
+fn widen_16(x: u16) -> u32
+    ensures { λ r. ⌜ r ≡ x ⌝ }
+{
+    x as u32
+}
+
+pub fn u32_at(f: &[u8], p: usize) -> u32
+    ensures { λ r. ⌜ r ≡ u32At (now (f .entry)) p ⌝ }
+{
+    if f.len() <= p {
+        return 0;
+    }
+    let low = widen_16(u16_at(f, p));
+    let high = widen_16(u16_at(f, p + 2));
+    low + 0x1_0000 * high
+}
+
+fn widen_32(x: u32) -> u64
+    ensures { λ r. ⌜ r ≡ x ⌝ }
+{
+    x as u64
+}
+
+pub fn u64_at(f: &[u8], p: usize) -> u64
+    ensures { λ r. ⌜ r ≡ u64At (now (f .entry)) p ⌝ }
+{
+    if f.len() <= p {
+        return 0;
+    }
+    let low = widen_32(u32_at(f, p));
+    let high = widen_32(u32_at(f, p + 4));
+    low + 0x1_0000_0000 * high
+}
+
+// The float that a pattern stands for. Every NaN's pattern gives the one NaN, whose sign and payload nothing here can see.
+pub fn float_of(bits: u64) -> f64
+    ensures { λ r. ⌜ r ≡ ofBits binary64 bits ⌝ }
+{
+    if 0x7ff0_0000_0000_0000 < bits % 0x8000_0000_0000_0000 {
+        0.0 / 0.0
+    } else {
+        f64::from_bits(bits)
+    }
+}
+
+pub fn f64_at(f: &[u8], p: usize) -> f64
+    ensures { λ r. ⌜ r ≡ f64At (now (f .entry)) p ⌝ }
+{
+    float_of(u64_at(f, p))
+}
