@@ -3,16 +3,21 @@
 
 rust_source=${GINGERFILE_RUST_SRC:-../shared/docs/src/src}
 
-# rust_at_hand WHAT: says so and returns 1 where the source or the compiler is missing.
+# rustc_at_hand WHAT: says so and returns 1 where the compiler is missing.
+rustc_at_hand() {
+    if ! command -v rustc >/dev/null; then
+        echo "$1 skipped: there is no rustc"
+        return 1
+    fi
+}
+
+# rust_at_hand WHAT: the same of the renderer's source and the compiler.
 rust_at_hand() {
     if [ ! -f "$rust_source/model.rs" ]; then
         echo "$1 skipped: there is no $rust_source/model.rs (GINGERFILE_RUST_SRC names another folder)"
         return 1
     fi
-    if ! command -v rustc >/dev/null; then
-        echo "$1 skipped: there is no rustc"
-        return 1
-    fi
+    rustc_at_hand "$1"
 }
 
 # patched_model: makes target/compare/model.rs.
