@@ -1,7 +1,7 @@
 //! The Rust renderer's private items, for the comparison and the bench. This is a child module of the patched
 //! model.rs, so it sees them.
 
-use super::{Allpass, Piano, StringWg};
+use super::{Allpass, Delay, Piano, StringWg};
 use crate::design::LoopDesign;
 
 #[inline(always)]
@@ -80,4 +80,34 @@ impl Filters {
 fn set_stage(stage: &mut Allpass, cells: &[f64]) {
     stage.x1 = cells[0];
     stage.y1 = cells[1];
+}
+
+// ---- the piano's state
+
+/// The hammer's key, y_h and v_h, where one flies.
+pub fn hammer(piano: &Piano) -> Option<(usize, f64, f64)> {
+    piano.hammer_state.as_ref().map(|h| (h.key_index, h.y_h, h.v_h))
+}
+
+/// Each key's held, hand_damped and damper_r.
+pub fn keys(piano: &Piano) -> Vec<(bool, bool, f64)> {
+    piano.keys.iter().map(|k| (k.held, k.hand_damped, k.damper_r)).collect()
+}
+
+pub fn pedal(piano: &Piano) -> bool {
+    piano.pedal
+}
+
+/// All cells in document 01's order, string by string: the six lines, the filters' cells, y_s, memory. A line's
+/// write of number j, from 0, stands in its cell j modulo its length, as in the part of work memory.
+pub fn part(piano: &Piano) -> Vec<f64> {
+    let mut cells = Vec::new();
+    for s in piano.keys.iter().flat_map(|k| &k.strings) {
+        let lines: [&Delay; 6] = [&s.a_r, &s.a_l, &s.b_r, &s.b_l, &s.c_r, &s.c_l];
+        cells.extend(lines.iter().flat_map(|line| &line.buf));
+        cells.extend([s.thiran.x1, s.thiran.y1]);
+        cells.extend(s.dispersion.iter().flat_map(|stage| [stage.x1, stage.y1]));
+        cells.extend([s.loss_y1, s.y_s, s.memory]);
+    }
+    cells
 }

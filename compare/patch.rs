@@ -1,5 +1,6 @@
 //! Writes the Rust renderer that we compare with: `patch FROM TO` reads model.rs and changes it only where
 //! document 01 says that we part from it. Each change must fit exactly as often as it is expected to.
+//! `patch FROM TO published` leaves `powf` as published, for the bench.
 
 use std::process::exit;
 
@@ -11,10 +12,12 @@ struct Patch {
     times: usize,
 }
 
+const POWF: &str = ".powf(";
+
 const PATCHES: [Patch; 2] = [
     Patch {
         reason: "`powf` is replaced, also in the Rust that we compare with",
-        from: ".powf(",
+        from: POWF,
         to: ".power_in_half_steps(",
         times: 3,
     },
@@ -39,9 +42,11 @@ fn fail(message: String) -> ! {
 }
 
 fn main() {
-    let arguments: Vec<String> = std::env::args().collect();
-    let [_, from, to] = arguments.as_slice() else {
-        fail("usage: patch FROM TO".to_string());
+    let arguments: Vec<String> = std::env::args().skip(1).collect();
+    let (from, to, published) = match arguments.as_slice() {
+        [from, to] => (from, to, false),
+        [from, to, last] if last == "published" => (from, to, true),
+        _ => fail("usage: patch FROM TO [published]".to_string()),
     };
     let mut text = std::fs::read_to_string(from).unwrap_or_else(|e| fail(format!("{from}: {e}")));
     for patch in &PATCHES {
@@ -52,8 +57,12 @@ fn main() {
                 patch.from, patch.times, patch.reason
             ));
         }
-        text = text.replace(patch.from, patch.to);
+        if !(published && patch.from == POWF) {
+            text = text.replace(patch.from, patch.to);
+        }
     }
-    text.push_str(APPENDED);
+    if !published {
+        text.push_str(APPENDED);
+    }
     std::fs::write(to, text).unwrap_or_else(|e| fail(format!("{to}: {e}")));
 }

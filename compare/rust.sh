@@ -27,6 +27,11 @@ patched_model() {
     target/compare/patch "$rust_source/model.rs" target/compare/model.rs
 }
 
+# published_model: makes target/compare/published.rs, the Rust with its own powf.
+published_model() {
+    target/compare/patch "$rust_source/model.rs" target/compare/published.rs published
+}
+
 # proved_library NAME: makes target/staticlib/libNAME.a; prints what rt said only where it fails.
 proved_library() {
     rt staticlib "$1" >target/compare/staticlib.log 2>&1 || {
@@ -35,8 +40,20 @@ proved_library() {
     }
 }
 
-# rust_program SOURCE NAME LIBRARY: makes target/compare/NAME, linked with the proved library.
+# proved_program NAME: makes target/bin/NAME; prints what rt said only where it fails.
+proved_program() {
+    rt check "$1" >target/compare/program.log 2>&1 || {
+        cat target/compare/program.log
+        return 1
+    }
+}
+
+# rust_program SOURCE NAME [LIBRARY]: makes target/compare/NAME, linked with the proved library where one is named.
 # No fast-math and no target-cpu: every operation is rounded once, as in the proved code.
 rust_program() {
-    rustc --edition 2021 -C opt-level=3 -o "target/compare/$2" "$1" -L native=target/staticlib -l "static=$3"
+    local library=()
+    if [ $# -gt 2 ]; then
+        library=(-L native=target/staticlib -l "static=$3")
+    fi
+    rustc --edition 2021 -C opt-level=3 -o "target/compare/$2" "$1" "${library[@]}"
 }

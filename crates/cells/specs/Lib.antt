@@ -3,3 +3,4 @@ pub mod Line
 pub mod Parts
 pub mod Fold
 pub mod Each
+pub mod Numbered

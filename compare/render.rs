@@ -1,0 +1,221 @@
+//! Compares the proved renderer with the Rust: random instruments and scores, every sample and force, and after each
+//! block the whole state, bit for bit, zeros and NaNs alike. The proved side is cut into blocks at random places; the
+//! Rust renders from silence in one run.
+
+#[allow(dead_code)]
+mod common;
+mod design;
+#[allow(dead_code)]
+mod instrument;
+#[allow(dead_code)]
+mod instruments;
+#[allow(dead_code)]
+#[path = "../target/compare/model.rs"]
+mod model;
+mod power;
+mod rendering;
+
+use common::{alike, all_alike, Random};
+use instrument::Instrument;
+use instruments::{pick, Size};
+use model::{inside, Event, Piano};
+use rendering::{Buffers, Score, Small};
+use std::collections::BTreeMap;
+use std::process::exit;
+
+struct Kind {
+    name: &'static str,
+    renders: u64,
+    /// The most samples of a render.
+    samples: u64,
+    instrument: fn(&mut Random) -> Instrument,
+}
+
+const KINDS: [Kind; 6] = [
+    Kind { name: "ordinary", renders: 500, samples: 1_200, instrument: |r| instruments::ordinary(r, Size::Small) },
+    Kind {
+        name: "one string, n = 4",
+        renders: 60,
+        samples: 1_200,
+        instrument: |r| instruments::ordinary(r, Size::Least),
+    },
+    Kind {
+        name: "large, to 66 stages",
+        renders: 120,
+        samples: 500,
+        instrument: |r| instruments::ordinary(r, Size::Large),
+    },
+    Kind { name: "wild", renders: 400, samples: 1_600, instrument: |r| instruments::wild(r, Size::Small) },
+    Kind { name: "wild and large", renders: 60, samples: 900, instrument: |r| instruments::wild(r, Size::Large) },
+    Kind { name: "lossless", renders: 30, samples: 20_000, instrument: instruments::lossless },
+];
+
+// ---- scores
+
+fn velocity(random: &mut Random) -> f64 {
+    match random.below(10) {
+        0 => pick(random, &[0.0, -0.0, 100.0, -100.0]),
+        1 => pick(random, &[f64::from_bits(1), 1e-300, -1e-12]),
+        2 => random.between(-100.0, 100.0),
+        3 => -random.between(0.0, 5.0),
+        _ => random.between(0.5, 7.0),
+    }
+}
+
+fn event(random: &mut Random, keys: &[u8]) -> Event {
+    let key = if random.below(12) == 0 { random.below(256) as u8 } else { pick(random, keys) };
+    match random.below(12) {
+        0 | 1 => Event::NoteOff { key },
+        2 | 3 => Event::Pedal(random.below(2) == 0),
+        4 => Event::HandDamp { key },
+        _ => Event::NoteOn { key, velocity: velocity(random) },
+    }
+}
+
+/// Positions that do not fall, many of them equal; a few lie past the render's end.
+fn score(random: &mut Random, keys: &[u8], samples: u64) -> Vec<(usize, Event)> {
+    let count = if random.below(10) == 0 { 64 } else { 1 + random.below(12) };
+    let span = pick(random, &[1, 40, samples / 2 + 1, samples + 10]);
+    let mut positions: Vec<usize> = (0..count).map(|_| random.below(span) as usize).collect();
+    positions.sort();
+    positions.into_iter().map(|q| (q, event(random, keys))).collect()
+}
+
+/// Lengths of blocks, of 0 and 1 too, that sum to the render's.
+fn blocks(random: &mut Random, samples: u64) -> Vec<usize> {
+    let mut left = samples;
+    let mut blocks = Vec::new();
+    while left > 0 {
+        let length = match random.below(8) {
+            0 => random.below(2),
+            1 => left,
+            _ => random.below(left / 2 + 2),
+        };
+        blocks.push(length.min(left) as usize);
+        left -= length.min(left);
+    }
+    blocks
+}
+
+// ---- one render
+
+#[derive(Default)]
+struct Counts {
+    renders: BTreeMap<&'static str, u64>,
+    by_exponent: BTreeMap<u32, u64>,
+    blocks: u64,
+    samples: u64,
+    sounding: u64,
+    infinite: u64,
+    forces: u64,
+    contacts: u64,
+    cells: u64,
+}
+
+/// The whole state, and where it differs.
+fn state_differs(rust: &Piano, small: &Small, part: &[f64]) -> Option<String> {
+    let keys = inside::keys(rust);
+    let flies = if small.flies { Some((small.key_index, small.y_h, small.v_h)) } else { None };
+    let hammers = match (inside::hammer(rust), flies) {
+        (None, None) => true,
+        (Some((k, y, v)), Some((l, z, w))) => k == l && alike(y, z) && alike(v, w),
+        _ => false,
+    };
+    let dampers: Vec<f64> = keys.iter().map(|(_, _, r)| *r).collect();
+    let pressed = keys.iter().enumerate();
+    let checks = [
+        ("contact_samples", rust.contact_samples as u64 == small.contact_samples),
+        ("peak_force", alike(rust.peak_force, small.peak_force)),
+        ("damper_r", all_alike(&dampers, &small.damper_r[..dampers.len()])),
+        ("held", pressed.clone().all(|(i, (held, _, _))| *held == small.held[i])),
+        ("hand_damped", pressed.clone().all(|(i, (_, damped, _))| *damped == small.hand_damped[i])),
+        ("pedal", inside::pedal(rust) == small.pedal),
+        ("hammer", hammers),
+        ("cells", all_alike(&inside::part(rust), part)),
+    ];
+    checks.iter().find(|(_, same)| !same).map(|(what, _)| what.to_string())
+}
+
+fn first_difference(what: &str, rust: &[f64], rattle: &[f64]) -> Option<String> {
+    let at = (0..rust.len()).find(|i| !alike(rust[*i], rattle[*i]))?;
+    Some(format!("{what} {at}: the Rust has {:e}, the proved renderer {:e}", rust[at], rattle[at]))
+}
+
+/// What stands in cells that no one may write.
+const UNTOUCHED: f64 = 4242.0;
+
+/// Each block on the proved side, then the Rust's unbroken render up to the block's end.
+fn differs(
+    counts: &mut Counts,
+    instrument: &Instrument,
+    events: &[(usize, Event)],
+    blocks: &[usize],
+) -> Option<String> {
+    let (file, score) = (instrument.bytes(), Score::new(events));
+    let mut part = vec![0.0; instrument.cells()];
+    let mut small = Small::silence();
+    let (mut t, mut forces) = (0, 0);
+    for &length in blocks {
+        let mut scratch = vec![f64::NAN; 6 * instrument.string_count()];
+        let (mut out, mut trace) = (vec![UNTOUCHED; length], vec![UNTOUCHED; length + 1]);
+        let lent = Buffers { part: &mut part, scratch: &mut scratch, out: &mut out, trace: &mut trace };
+        small = rendering::block(&file, &score, small, t as u64, lent);
+        let mut rust = instrument.piano();
+        let samples = rust.render(t + length, events);
+        let pushed = &rust.force_trace[forces..];
+        let difference = if pushed.len() == small.forces {
+            first_difference("sample", &samples[t..], &out)
+                .or_else(|| first_difference("force", pushed, &trace))
+                .or_else(|| {
+                    first_difference("trace", &vec![UNTOUCHED; length + 1 - pushed.len()], &trace[pushed.len()..])
+                })
+                .or_else(|| state_differs(&rust, &small, &part))
+        } else {
+            Some(format!("{} forces, and the Rust has {}", small.forces, pushed.len()))
+        };
+        if let Some(difference) = difference {
+            return Some(format!("block of {length} from {t}: {difference}"));
+        }
+        counts.blocks += 1;
+        counts.samples += length as u64;
+        counts.sounding += out.iter().filter(|x| **x != 0.0).count() as u64;
+        counts.infinite += out.iter().filter(|x| !x.is_finite()).count() as u64;
+        counts.forces += pushed.len() as u64;
+        counts.contacts += pushed.iter().filter(|x| **x > 0.0).count() as u64;
+        counts.cells += part.len() as u64;
+        t += length;
+        forces = rust.force_trace.len();
+    }
+    None
+}
+
+fn main() {
+    let mut counts = Counts::default();
+    for (k, kind) in KINDS.iter().enumerate() {
+        for turn in 0..kind.renders {
+            let mut random = Random::new((k as u64 + 1) << 32 | turn);
+            let instrument = (kind.instrument)(&mut random);
+            let samples = 1 + random.below(kind.samples);
+            let keys: Vec<u8> = instrument.keys.iter().map(|key| key.key).collect();
+            let events = score(&mut random, &keys, samples);
+            let blocks = blocks(&mut random, samples);
+            if let Some(difference) = differs(&mut counts, &instrument, &events, &blocks) {
+                println!("render {turn} of kind `{}`, blocks {blocks:?}, events {events:?}", kind.name);
+                println!("{difference}");
+                exit(1);
+            }
+            *counts.renders.entry(kind.name).or_insert(0) += 1;
+            *counts.by_exponent.entry(instrument.common.h).or_insert(0) += 1;
+        }
+    }
+    for (kind, count) in &counts.renders {
+        println!("renders  {kind:<24} {count:>9}");
+    }
+    for (h, count) in &counts.by_exponent {
+        println!("renders  h = {h:<20} {count:>9}");
+    }
+    println!("blocks   {} with their states, {} cells", counts.blocks, counts.cells);
+    println!("samples  {} compared, {} not zero, {} infinite or NaN", counts.samples, counts.sounding, counts.infinite);
+    println!("forces   {} compared, {} above zero", counts.forces, counts.contacts);
+    println!("no render differs");
+}

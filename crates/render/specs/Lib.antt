@@ -1,0 +1,4 @@
+pub mod Steps
+pub mod Render
+pub mod Laws
+pub mod Work

@@ -1,0 +1,45 @@
+-- `sample::move_hammer` meets its contract. Assumes nothing.
+use Rattle.sample.specs.Sample.{moved}
+use borrow.Author.Needs.{needs}
+use Rattle.sample.proofs.move_hammer.Statement.{statement}
+use Rattle.sample.proofs.move_hammer.Tie as tie
+
+enum-told : tie.Need-enum-told
+enum-told c = search needs
+
+enum-known-h : tie.Need-enum-known-h
+enum-known-h c = search needs
+
+hammer-after-requires : tie.Need-hammer-after-requires
+hammer-after-requires c κs = search needs
+
+add-t17 : tie.Need-add-t17
+add-t17 c = search needs
+
+max-requires : tie.Need-max-requires
+max-requires c κs = search needs
+
+returns : tie.Need-returns
+unfolding moved
+returns c = rw (c .enum-told .given .1)
+
+returns-2 : tie.Need-returns-2
+unfolding moved
+returns-2 c = rw (c .before .before .before .before .before .before .before .before .before .h .given .1, c .before .before .before .hammer-after .ensures, c .before .before .if1 .taken, c .max .ensures)
+
+returns-3 : tie.Need-returns-3
+unfolding moved
+returns-3 c = rw (c .before .before .before .before .before .before .before .h .given .1, c .before .hammer-after .ensures, c .if1 .left)
+
+pub move-hammer-spec : {M : Type 1} → statement M
+move-hammer-spec =
+    tie.close
+    (tie.spec
+    enum-told
+    enum-known-h
+    hammer-after-requires
+    add-t17
+    max-requires
+    returns
+    returns-2
+    returns-3)

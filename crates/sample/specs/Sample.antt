@@ -1,0 +1,100 @@
+-- Document 01, "One sample": "`render` gives the order: events whose position is not above t; dampers; all reads and loop filters; hammer and damper
+-- points; hammer motion; nut; bridge." All but the events, which crate `score` defines. Definitions only.
+use mathlib.Core.Path.{_≡_}
+use mathlib.Core.List.{List, [], _∷_}
+use mathlib.Core.Bool.{Bool, true, false, cond}
+use Prim.Native.Nat.{ℕ, _+_, _≤_}
+use lib.ListN.{length}
+use lib.Ieee.{Float, binary64, add, sub, mul, div, lt}
+use Rattle.float.specs.Float.{maxOf, zero as +0}
+use Rattle.string.specs.declared.StringDesign.{StringDesign}
+use Rattle.string.specs.Table.{strings}
+use Rattle.points.specs.declared.Constants.{Constants}
+use Rattle.points.specs.declared.HammerState.{HammerState}
+use Rattle.points.specs.declared.HammerState.the-variants.{Resting, Flying}
+use Rattle.points.specs.declared.ForceSum.{ForceSum}
+use Rattle.strings.specs.Strings.{AllFit, cellsOf, readsAll, vIns, filteredAll, pointsAll, pointForce, noForce, nutsAll, bridgeAll, bridgeForce}
+use Rattle.keys.specs.declared.KeyConstants.{KeyConstants}
+use Rattle.keys.specs.Keys.{keysOf, dampers, bridgeSpeeds}
+use Rattle.sample.specs.declared.Motion.{Motion}
+use Rattle.sample.specs.declared.Setup.{Setup}
+
+-- what a sample is computed with: the instrument's constants, its keys and its strings
+pub record Model : Type 0 where
+  pub constants : Constants
+  pub keys : List KeyConstants
+  pub strings : List StringDesign
+
+abbrev pub modelAt : Setup → List Float → List ℕ → List Float → Model
+modelAt setup table lengths coefficients = record {
+  constants = setup .constants;
+  keys = keysOf table (setup .keys);
+  strings = strings lengths coefficients (setup .strings);
+}
+
+-- the tables hold strings that can sound, and the part w and the scratch v have cells for them
+pub record Ready (setup : Setup) (lengths : List ℕ) (coefficients w v : List Float) : Type 0 where
+  pub fit : AllFit lengths coefficients (setup .strings)
+  pub keys : setup .keys ≤ 16
+  pub cells : cellsOf (strings lengths coefficients (setup .strings)) ≤ length w
+  pub scratch : setup .strings ≤ length v
+
+-- the bridge's part of a sample: the cells w come to w', and r is the force on the bridge
+pub record Bridged (m : Model) (t : ℕ) (v w w' : List Float) (r : Float) : Type 0 where
+  pub cells : w' ≡ bridgeAll (bridgeSpeeds (m .constants .yz) (m .keys) (m .strings) v) v (m .strings) t w
+  pub out : r ≡ bridgeForce (m .constants .z) (bridgeSpeeds (m .constants .yz) (m .keys) (m .strings) v) v (m .strings) w +0
+
+-- a hammer that flies back with no string in contact is gone
+abbrev pub hammerAfter : Bool → ℕ → Float → Float → HammerState
+hammerAfter any key y v = cond any (Flying key y v) (cond (lt v +0) Resting (Flying key y v))
+
+-- hammer motion: the force slows the hammer; contact_samples and peak_force change in contact alone
+unfoldable pub moved : Constants → HammerState → ℕ → Float → ForceSum → Motion
+moved c Resting n peak f = record { hammer = Resting; «contact_samples» = n; «peak_force» = peak }
+moved c (Flying key y v) n peak f =
+    let v' = sub binary64 v (div binary64 (mul binary64 (c .dt) (f .«force_sum»)) (c .hammer .mass)) in
+    record {
+      hammer = hammerAfter (f .«any_contact») key (add binary64 y (mul binary64 (c .dt) v')) v';
+      «contact_samples» = cond (f .«any_contact») (n + 1) n;
+      «peak_force» = cond (f .«any_contact») (maxOf peak (f .«force_sum»)) peak;
+    }
+
+-- force_trace gets one force for each sample that has a hammer
+unfoldable pub pushedBy : HammerState → Bool
+pushedBy Resting = false
+pushedBy (Flying key y v) = true
+
+abbrev pub forcesOf : Bool → Float → List Float
+forcesOf true f = f ∷ []
+forcesOf false f = []
+
+-- what a sample leaves, its output, and the force pushed, one or none
+pub record Step : Type 0 where
+  pub «damper_r» : List Float
+  pub motion : Motion
+  pub cells : List Float
+  pub out : Float
+  pub force : List Float
+
+-- Sample t after its events, of the dampers' resistances R, the hammer and the cells; `down` says which dampers are to be down.
+unfoldable pub sampled : Model → (ℕ → Bool) → ℕ → List Float → Motion → List Float → Step
+sampled m down t R motion w =
+    let c = m .constants in
+    let ds = m .strings in
+    let hammer = motion .hammer in
+    let R' = dampers (m .keys) down R in
+    let reads = readsAll ds t w in
+    let v = vIns ds t w in
+    let filtered = filteredAll ds t w in
+    let struck = pointsAll c hammer R' ds t reads filtered in
+    let force = pointForce c hammer ds reads filtered noForce in
+    let after = moved c hammer (motion .«contact_samples») (motion .«peak_force») force in
+    let nuts = nutsAll ds t reads struck in
+    let speeds = bridgeSpeeds (c .yz) (m .keys) ds v in
+    record {
+      «damper_r» = R';
+      motion = after;
+      cells = bridgeAll speeds v ds t nuts;
+      out = bridgeForce (c .z) speeds v ds nuts +0;
+      force = forcesOf (pushedBy hammer) (force .«force_sum»);
+    }

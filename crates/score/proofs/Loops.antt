@@ -1,0 +1,118 @@
+-- The loops over keys and over events, one turn each.
+use mathlib.Core.Path.{_≡_, sym, ap, _∙_}
+use mathlib.Core.List.{List, [], _∷_}
+use mathlib.Core.Bool.{Bool, false}
+use Prim.Native.Nat.{ℕ, suc, _+_, _-_, _≤_, _<_}
+use native.Mathlib.Nat.{sub-zero}
+use native.Mathlib.Numerals.{add-one}
+use native.Mathlib.Omega.{arith}
+use borrow.Author.Tests.{eq-eqb, ne-eqb}
+use lib.ListN.{length, take, drop, getD, set, length-set, drop-of-length-le, length-take}
+use lib.Seq.{drop-cons, getD-take, getD-set-same, getD-set-other}
+use Rattle.cells.specs.Numbered.{one-more}
+use Rattle.design.specs.declared.KeyDesign.{KeyDesign}
+use Rattle.instrument.specs.declared.Instrument.{Instrument}
+use Rattle.instrument.specs.Valid.{keyAt}
+use Rattle.string.specs.declared.StringDesign.{StringDesign}
+use Rattle.score.specs.declared.TimedEvent.{TimedEvent}
+use Rattle.score.specs.declared.Piano.{Piano}
+use Rattle.score.specs.Events.{State, keyIndex, isDown, applied, applyAll}
+use Rattle.score.specs.Score.{noEvent, eventsAt, NextFrom}
+
+-- the search for a key: none of the keys below k has the number x
+module _ (keys : List KeyDesign) (n x : ℕ) where
+  pub record Sought (k : ℕ) : Type 0 where
+    pub below : k ≤ n
+    pub rest : keyIndex keys k (n - k) x ≡ keyIndex keys 0 n x
+
+  pub sought-start : Sought 0
+  sought-start = record { below = omega arith; rest = ap (λ (m : ℕ). keyIndex keys 0 m x) (sub-zero n) }
+
+  module _ (k : ℕ) (s : Sought k) (h : k < n) where
+    left-is : n - k ≡ suc (n - (k + 1))
+    left-is = omega arith
+
+    pub sought-found : keyAt keys k .key ≡ x → k ≡ keyIndex keys 0 n x
+    unfolding keyIndex
+    sought-found e = let q : keyIndex keys k (n - k) x ≡ k = rw (left-is, eq-eqb (keyAt keys k .key) x e) in sym q ∙ s .rest
+
+    pub sought-turn : (keyAt keys k .key ≡ x → ⊥) → Sought (k + 1)
+    unfolding keyIndex
+    sought-turn e =
+        let q : keyIndex keys k (n - k) x ≡ keyIndex keys (k + 1) (n - (k + 1)) x = rw (left-is, ne-eqb (keyAt keys k .key) x e) in
+        record { below = omega arith; rest = sym q ∙ s .rest }
+
+  pub sought-end : (k : ℕ) → Sought k → n ≤ k → n ≡ keyIndex keys 0 n x
+  unfolding keyIndex
+  sought-end k s h =
+      let z : n - k ≡ 0 = omega arith in
+      let q : keyIndex keys k (n - k) x ≡ k = rw z in
+      let b = s .below in
+      let e : n ≡ k = omega arith in
+      e ∙ sym q ∙ s .rest
+
+-- the dampers below k are told
+pub record Told (i : Instrument) (p : Piano) (down : List Bool) (k : ℕ) : Type 0 where
+  pub below : k ≤ i .«key_count»
+  pub long : length down ≡ 16
+  pub each : (j : ℕ) → j < k → getD down j false ≡ isDown i p j
+
+-- key k's is stored beside them
+pub told-turn : (i : Instrument) (p : Piano) (down : List Bool) (k : ℕ) → Told i p down k → k < i .«key_count» → i .«key_count» ≤ 16 → Told i p (set down k (isDown i p k)) (k + 1)
+told-turn i p down k t h few =
+    let long = t .long in
+    record {
+      below = omega arith;
+      long = length-set down k (isDown i p k) ∙ t .long;
+      each = λ j hj. one-more j k hj
+          (λ e. ap (λ (n : ℕ). getD (set down k (isDown i p k)) n false) e ∙ getD-set-same down k (isDown i p k) false (omega arith) ∙ ap (λ (n : ℕ). isDown i p n) (sym e))
+          (λ l. getD-set-other down k j (isDown i p k) false (λ q. omega arith) ∙ t .each j l);
+    }
+
+-- the events below i that count are at next or later
+pub record Later (es : List TimedEvent) (from next i : ℕ) : Type 0 where
+  pub each : (j : ℕ) → j < i → from ≤ getD es j noEvent .position → next ≤ getD es j noEvent .position
+
+pub later-turn : (es : List TimedEvent) (from next i r : ℕ) → Later es from next i → r ≤ next → (from ≤ getD es i noEvent .position → r ≤ getD es i noEvent .position) → Later es from r (i + 1)
+later-turn es from next i r l h k = record {
+  each = λ j hj hf. one-more j i hj
+      (λ e. rw e (k (rw e at hf)))
+      (λ b. let q = l .each j b hf in omega arith);
+}
+
+pub later-end : (es : List TimedEvent) (from next n i : ℕ) → Later es from next i → n ≤ i → NextFrom (take n es) from next
+later-end es from next n i l h = record {
+  none = λ j hj hf.
+      let b : j < n = omega (arith, simp length-take at hj) in
+      let e = getD-take n es j noEvent b in
+      rw e (l .each j (omega arith) (rw e at hf));
+}
+
+-- the events from i on that act at t give what all of them give
+module _ (i : Instrument) (ds : List StringDesign) (es : List TimedEvent) (t : ℕ) (s₀ : State) where
+  pub record Acted (s : State) (k : ℕ) : Type 0 where
+    pub rest : applyAll i ds (eventsAt (drop k es) t) s ≡ applyAll i ds (eventsAt es t) s₀
+
+  module _ (s : State) (k : ℕ) (a : Acted s k) (h : k < length es) (e : TimedEvent) (he : getD es k noEvent ≡ e) where
+    rest-is : drop k es ≡ e ∷ drop (k + 1) es
+    rest-is = drop-cons es k noEvent h ∙ ap (λ (x : TimedEvent). x ∷ drop (suc k) es) he ∙ ap (λ (n : ℕ). e ∷ drop n es) (sym (add-one k))
+
+    pub acted-now : e .position ≡ t → (s' : State) → s' ≡ applied i ds (e .event) s → Acted s' (k + 1)
+    unfolding applyAll eventsAt
+    acted-now p s' q = record {
+      rest =
+          rw q (sym (let z : applyAll i ds (eventsAt (drop k es) t) s ≡ applyAll i ds (eventsAt (drop (k + 1) es) t) (applied i ds (e .event) s) = rw (rest-is, eq-eqb (e .position) t p) in z) ∙ a .rest);
+    }
+
+    pub acted-other : (e .position ≡ t → ⊥) → Acted s (k + 1)
+    unfolding eventsAt
+    acted-other p = record {
+      rest =
+          sym (let z : applyAll i ds (eventsAt (drop k es) t) s ≡ applyAll i ds (eventsAt (drop (k + 1) es) t) s = rw (rest-is, ne-eqb (e .position) t p) in z) ∙ a .rest;
+    }
+
+  pub acted-end : (s : State) (k : ℕ) → Acted s k → length es ≤ k → s ≡ applyAll i ds (eventsAt es t) s₀
+  unfolding applyAll eventsAt
+  acted-end s k a h =
+      let z : drop k es ≡ [] = drop-of-length-le es h in
+      rw z at (a .rest)

@@ -1,0 +1,4 @@
+pub mod Events
+pub mod Score
+pub mod Laws
+pub mod Due

@@ -1,0 +1,3 @@
+pub mod String
+pub mod Table
+pub mod Laws

@@ -1,0 +1,3 @@
+pub mod Strings
+pub mod Walk
+pub mod Laws

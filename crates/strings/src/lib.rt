@@ -1,0 +1,99 @@
+// The passes of one sample over all strings: each takes the strings' parts one after the other, and lends each string its own.
+use points::Constants;
+use points::ForceSum;
+use points::HammerState;
+ghost use mathlib.Core.Path.{_≡_};
+ghost use mathlib.Core.List.{_++_};
+ghost use Prim.Native.Nat.{_≤_};
+ghost use lib.ListN.{length, drop};
+ghost use Rattle.string.specs.Table.{strings};
+ghost use Rattle.strings.specs.Strings.{AllFit, cellsOf, filteredAll, vIns, turnedAll, forceAll, noForce, bridgeAll, bridgeForce};
+ghost use Rattle.float.specs.Float.{zero};
+
+// All loop filters; each string's v_in goes to its cell of v_in.
+pub fn filter_strings(
+    part: &mut [f64],
+    v_in: &mut [f64],
+    lengths: &[usize; 160],
+    coefficients: &[f64; 128],
+    n: usize,
+    t: u64,
+)
+    requires { ⌜ AllFit (now lengths) (now coefficients) n ⌝ }
+    requires { ⌜ cellsOf (strings (now lengths) (now coefficients) n) ≤ length (now part) ⌝ }
+    requires { ⌜ n ≤ length (now «v_in») ⌝ }
+    ensures { λ _. ⌜ (now (part .exit) ≡ filteredAll (strings (now (lengths .entry)) (now (coefficients .entry)) n) t (now (part .entry)))
+        × (now («v_in» .exit) ≡ vIns (strings (now (lengths .entry)) (now (coefficients .entry)) n) t (now (part .entry)) ++ drop n (now («v_in» .entry))) ⌝ }
+{
+    let mut at = 0usize;
+    for i in 0..n {
+        let d = string::design_at(lengths, coefficients, i);
+        let e = at + string::size(d);
+        v_in[i] = string::filter_string(&mut part[at..e], d, t);
+        at = e;
+    }
+}
+
+// All hammer and damper points, and the nuts.
+pub fn strike_strings(
+    part: &mut [f64],
+    c: Constants,
+    h: HammerState,
+    damper_r: &[f64; 16],
+    lengths: &[usize; 160],
+    coefficients: &[f64; 128],
+    n: usize,
+    t: u64,
+) -> ForceSum
+    requires { ⌜ AllFit (now lengths) (now coefficients) n ⌝ }
+    requires { ⌜ cellsOf (strings (now lengths) (now coefficients) n) ≤ length (now part) ⌝ }
+    ensures { λ r. ⌜ (now (part .exit) ≡ turnedAll c h (now («damper_r» .entry)) (strings (now (lengths .entry)) (now (coefficients .entry)) n) t (now (part .entry)))
+        × (r ≡ forceAll c h (strings (now (lengths .entry)) (now (coefficients .entry)) n) t (now (part .entry)) noForce) ⌝ }
+{
+    let mut at = 0usize;
+    let mut sum = ForceSum {
+        force_sum: 0.0,
+        any_contact: false,
+    };
+    for i in 0..n {
+        let d = string::design_at(lengths, coefficients, i);
+        let e = at + string::size(d);
+        let k = d.key;
+        let f = points::strike_string(&mut part[at..e], c, h, d, damper_r[k], t);
+        sum = points::add_force(sum, f);
+        at = e;
+    }
+    sum
+}
+
+// All bridge ends, of each key's speed v_b; the force on the bridge is returned.
+pub fn bridge_strings(
+    part: &mut [f64],
+    v_in: &[f64],
+    v_b: &[f64; 16],
+    lengths: &[usize; 160],
+    coefficients: &[f64; 128],
+    z: f64,
+    n: usize,
+    t: u64,
+) -> f64
+    requires { ⌜ AllFit (now lengths) (now coefficients) n ⌝ }
+    requires { ⌜ cellsOf (strings (now lengths) (now coefficients) n) ≤ length (now part) ⌝ }
+    requires { ⌜ n ≤ length (now «v_in») ⌝ }
+    ensures { λ r. ⌜ (now (part .exit) ≡ bridgeAll (now («v_b» .entry)) (now («v_in» .entry)) (strings (now (lengths .entry)) (now (coefficients .entry)) n) t (now (part .entry)))
+        × (r ≡ bridgeForce z (now («v_b» .entry)) (now («v_in» .entry)) (strings (now (lengths .entry)) (now (coefficients .entry)) n) (now (part .entry)) zero) ⌝ }
+{
+    let mut at = 0usize;
+    let mut f_bridge = 0.0;
+    for i in 0..n {
+        let d = string::design_at(lengths, coefficients, i);
+        let e = at + string::size(d);
+        let k = d.key;
+        let x = v_in[i];
+        let y = v_b[k];
+        string::bridge_string(&mut part[at..e], d, t, y - x);
+        f_bridge = f_bridge + z * (2.0 * x - y);
+        at = e;
+    }
+    f_bridge
+}
