@@ -2,3 +2,4 @@ pub mod Steps
 pub mod Render
 pub mod Laws
 pub mod Work
+pub mod Hammers
