@@ -1,0 +1,2 @@
+pub mod Decimate
+pub mod Steps

@@ -1,0 +1,5 @@
+pub mod Runs
+pub mod Memory
+pub mod Stands
+pub mod Steps
+pub mod Demand

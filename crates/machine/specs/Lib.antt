@@ -1,0 +1,4 @@
+pub mod Refusals
+pub mod Machine
+pub mod Laws
+pub mod Rows

@@ -1,0 +1,54 @@
+-- Document 01, "The session": insert goes "after all events at or before its position q"; remove takes "the event at an index from 0, of position q". Refusals 7 and 13: "a position
+-- that falls or is above that end, a velocity of 13". Definitions only: assumes nothing.
+use mathlib.Core.Bool.{Bool, true, false, _&&_}
+use mathlib.Core.List.{List, [], _∷_}
+use Prim.Native.Nat.{ℕ, zero, suc}
+use lib.Dec.{leb}
+use lib.Ieee.{Float, le, neg, ofInt, binary64}
+use lib.IntN.{pos}
+use Rattle.score.specs.declared.Event.{Event}
+use Rattle.score.specs.declared.Event.the-variants.{NoteOn, NoteOff, Pedal, HandDamp}
+use Rattle.score.specs.declared.TimedEvent.{TimedEvent}
+use Rattle.positions.specs.Positions.{end, pick}
+
+-- the one order of a score: whether x may stand before y
+unfoldable pub mayPrecede : TimedEvent → TimedEvent → Bool
+mayPrecede x y = leb (x .position) (y .position)
+
+-- after all events that may precede it
+unfoldable pub placed : List TimedEvent → TimedEvent → List TimedEvent
+placed [] e = e ∷ []
+placed (x ∷ xs) e = pick (mayPrecede x e) (x ∷ placed xs e) (e ∷ x ∷ xs)
+
+-- the index at which it is placed
+unfoldable pub placeOf : List TimedEvent → TimedEvent → ℕ
+placeOf [] e = 0
+placeOf (x ∷ xs) e = pick (mayPrecede x e) (suc (placeOf xs e)) 0
+
+-- the event at an index from 0 is gone
+unfoldable pub removed : List TimedEvent → ℕ → List TimedEvent
+removed [] k = []
+removed (x ∷ xs) zero = xs
+removed (x ∷ xs) (suc k) = x ∷ removed xs k
+
+-- a velocity of 13 is NaN or outside −100 to 100; a comparison with NaN is false
+abbrev pub hundred : Float
+hundred = ofInt binary64 (pos 100)
+
+unfoldable pub soundVelocity : Event → Bool
+soundVelocity (NoteOn k v) = le (neg hundred) v && le v hundred
+soundVelocity (NoteOff k) = true
+soundVelocity (Pedal d) = true
+soundVelocity (HandDamp k) = true
+
+unfoldable pub soundEvent : TimedEvent → Bool
+soundEvent x = leb (x .position) end && soundVelocity (x .event)
+
+-- each event may follow the one before it, and is sound; x stands before the first
+unfoldable pub soundAfter : TimedEvent → List TimedEvent → Bool
+soundAfter x [] = true
+soundAfter x (y ∷ ys) = mayPrecede x y && soundEvent y && soundAfter y ys
+
+unfoldable pub soundScore : List TimedEvent → Bool
+soundScore [] = true
+soundScore (x ∷ xs) = soundEvent x && soundAfter x xs

@@ -1,0 +1,46 @@
+use mathlib.Core.Path.{_≡_, refl, sym, _∙_, ap}
+use native.Mathlib.Omega.{arith}
+use Rattle.machine.specs.Laws.{else-first, else-next}
+use Rattle.session_record.proofs.Tests.{cue-again, cue-spare, cue-full}
+use borrow.Author.Needs.{needs}
+use Rattle.session_record.proofs.cue_refusal.Statement.{statement}
+use Rattle.session_record.proofs.cue_refusal.Tie as tie
+
+record-refusal-requires : tie.Need-record-refusal-requires
+record-refusal-requires c κs = search needs
+
+returns : tie.Need-returns
+returns c = else-first _ _ _ (c .before .record-refusal .ensures) (c .if1 .taken)
+
+slot-at-requires : tie.Need-slot-at-requires
+slot-at-requires c κs = search needs
+
+returns-2 : tie.Need-returns-2
+returns-2 c =
+    let from = c .before .before .before .before .before .args in
+    cue-again (from .session .t) (from .session .cues) (c .before .slot-at .ensures .1) _ (c .before .slot-at .ensures .0) (omega arith) ∙ else-next _ _ _ (c .before .before .before .before .record-refusal .ensures) (c .before .before .before .if1 .left)
+
+free-slot-requires : tie.Need-free-slot-requires
+free-slot-requires c κs = search needs
+
+returns-3 : tie.Need-returns-3
+returns-3 c =
+    let from = c .before .before .before .before .before .before .before .args in
+    cue-spare (from .session .t) (from .session .cues) (c .before .free-slot .ensures .1) _ (c .before .free-slot .ensures .0) (omega arith) ∙ else-next _ _ _ (c .before .before .before .before .before .before .record-refusal .ensures) (c .before .before .before .before .before .if1 .left)
+
+returns-4 : tie.Need-returns-4
+returns-4 c =
+    let from = c .before .before .before .before .before .before .before .args in
+    cue-full (from .session .t) (from .session .cues) (c .before .free-slot .ensures .1) _ _ (c .before .before .before .slot-at .ensures .0) (c .before .free-slot .ensures .0) (omega arith) (omega arith) ∙ else-next _ _ _ (c .before .before .before .before .before .before .record-refusal .ensures) (c .before .before .before .before .before .if1 .left)
+
+pub cue-refusal-spec : {M : Type 1} → statement M
+cue-refusal-spec =
+    tie.close
+    (tie.spec
+    record-refusal-requires
+    returns
+    slot-at-requires
+    returns-2
+    free-slot-requires
+    returns-3
+    returns-4)

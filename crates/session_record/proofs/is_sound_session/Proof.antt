@@ -1,0 +1,28 @@
+use mathlib.Core.Path.{_≡_, refl, sym, _∙_, ap}
+use borrow.Author.Tests.{le-leb, lt-leb}
+use Rattle.session_record.specs.Record.{soundSession}
+use borrow.Author.Needs.{needs}
+use Rattle.session_record.proofs.is_sound_session.Statement.{statement}
+use Rattle.session_record.proofs.is_sound_session.Tie as tie
+
+returns : tie.Need-returns
+unfolding soundSession
+returns c = rw (lt-leb _ 64 (c .if1 .taken))
+
+is-sound-score-requires : tie.Need-is-sound-score-requires
+is-sound-score-requires c κs = search needs
+
+is-sound-piano-requires : tie.Need-is-sound-piano-requires
+is-sound-piano-requires c κs = search needs
+
+are-sound-requires : tie.Need-are-sound-requires
+are-sound-requires c κs = search needs
+
+returns-2 : tie.Need-returns-2
+unfolding soundSession
+returns-2 c = rw (le-leb _ 64 (c .before .before .before .before .before .before .before .if1 .left), c .before .before .before .before .before .is-sound-score .ensures, c .before .before .before .is-sound-piano .ensures, c .before .are-sound .ensures)
+
+pub is-sound-session-spec : {M : Type 1} → statement M
+is-sound-session-spec =
+    tie.close
+    (tie.spec returns is-sound-score-requires is-sound-piano-requires are-sound-requires returns-2)

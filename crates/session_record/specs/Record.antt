@@ -1,0 +1,42 @@
+-- Document 01, refusals 7 and 8: "A handed-in record, whose fields are open, is wrong: an instrument that no accepted file gives; or a session with t .. above the end of 11, over 64
+-- events, ..", and "Work memory .. has fewer than 5W cells". Definitions only: assumes nothing.
+use mathlib.Core.Bool.{Bool, not, _&&_}
+use mathlib.Core.List.{List}
+use Prim.Native.Nat.{ℕ, _*_}
+use lib.Dec.{leb, ltb}
+use lib.ListN.{take}
+use Rattle.instrument.specs.declared.Instrument.{Instrument}
+use Rattle.instrument.specs.Valid.{valid}
+use Rattle.instrument.specs.Work.{partCells}
+use Rattle.score.specs.declared.TimedEvent.{TimedEvent}
+use Rattle.positions.specs.Positions.{end}
+use Rattle.score_edits.specs.Edits.{soundScore}
+use Rattle.cues.specs.Cues.{soundPiano, soundCues}
+use Rattle.machine.specs.Refusals.{refuseIf, orElse}
+use Rattle.session_record.specs.declared.Session.{Session}
+
+-- the score: what lies past the count decides nothing
+abbrev pub scoreOf : Session → List TimedEvent
+scoreOf s = take (s .count) (s .events)
+
+-- of an instrument with so many keys
+unfoldable pub soundSession : ℕ → Session → Bool
+soundSession keys s =
+    leb (s .count) 64
+    && (leb (s .t) end && soundScore (scoreOf s) && soundPiano keys (s .t) (s .piano) && soundCues keys (s .cues))
+
+-- 7
+abbrev pub soundRecords : Instrument → Session → Bool
+soundRecords i s = valid i && soundSession (i .«key_count») s
+
+-- 8. "Work memory (open and the five calls; energies too) has fewer than 5W cells."
+abbrev pub workTest : Instrument → ℕ → ℕ
+workTest i cells = refuseIf (ltb cells (5 * partCells i)) 8
+
+-- "open, given an instrument, 7 and 8"
+unfoldable pub openRefusal : Instrument → ℕ → ℕ
+openRefusal i cells = orElse (refuseIf (not (valid i)) 7) (workTest i cells)
+
+-- 7 and 8, of every other call
+unfoldable pub recordRefusal : Instrument → Session → ℕ → ℕ
+recordRefusal i s cells = orElse (refuseIf (not (soundRecords i s)) 7) (workTest i cells)

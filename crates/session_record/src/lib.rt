@@ -1,0 +1,232 @@
+// Document 01, "Numbers a call may give": the session's record, its test in refusal 7, and for each call the refusals that concern it, in their order.
+ghost use mathlib.Core.Path.{_≡_};
+ghost use mathlib.Core.Bool.{true};
+ghost use Rattle.instrument.specs.Valid.{valid};
+ghost use Rattle.instrument.specs.Work.{partCells};
+ghost use Prim.Native.Nat.{_+_, _≤_};
+ghost use lib.ListN.{length};
+ghost use Rattle.machine.specs.Refusals.{orElse, playRefusal, cueRefusal, goRefusal, insertRefusal, removeRefusal, scratchCells};
+ghost use Rattle.machine.specs.Machine.{startOf};
+ghost use Rattle.cues.specs.Cues.{keptOf};
+ghost use Rattle.session_record.specs.Record.{soundSession, workTest, openRefusal, recordRefusal};
+use cues::Cue;
+use instrument::Instrument;
+use score::Piano;
+use score::TimedEvent;
+use score_edits::END;
+
+// The score is the first `count` events. What lies past it, and in slots that keep no cue, decides nothing.
+pub struct Session {
+    pub t: u64,
+    pub count: usize,
+    pub events: [TimedEvent; 64],
+    pub cues: [Cue; 4],
+    pub piano: Piano,
+}
+
+const RECORD: u64 = 7;
+
+const WORK: u64 = 8;
+
+const SCRATCH: u64 = 9;
+
+const TRACE: u64 = 10;
+
+const PAST_END: u64 = 11;
+
+const SCORE_FULL: u64 = 12;
+
+const VELOCITY: u64 = 13;
+
+const NO_EVENT: u64 = 14;
+
+const CUES_FULL: u64 = 15;
+
+const REPLAY: u64 = 16;
+
+// The longest go.
+const LONGEST: u64 = 1000000;
+
+fn is_sound_session(keys: usize, session: Session) -> bool
+    ensures { λ r. ⌜ r ≡ soundSession keys session ⌝ }
+{
+    let count = session.count;
+    if 64 < count {
+        return false;
+    }
+    let events = session.events;
+    let in_score = score_edits::is_sound_score(events, count);
+    let piano = session.piano;
+    let now = cues::is_sound_piano(keys, session.t, piano);
+    let slots = session.cues;
+    let kept = cues::are_sound(keys, slots);
+    (session.t <= END) & in_score & now & kept
+}
+
+// W, the cells of one part.
+pub fn part_size(instrument: Instrument) -> usize
+    requires { ⌜ valid instrument ≡ true ⌝ }
+    ensures { λ r. ⌜ r ≡ partCells instrument ⌝ }
+{
+    instrument::part_cells(instrument)
+}
+
+// Work memory is five parts.
+fn work_refusal(instrument: Instrument, cells: usize) -> u64
+    requires { ⌜ valid instrument ≡ true ⌝ }
+    ensures { λ r. ⌜ r ≡ workTest instrument cells ⌝ }
+{
+    if cells < 5 * part_size(instrument) {
+        WORK
+    } else {
+        0
+    }
+}
+
+pub fn open_refusal(instrument: Instrument, cells: usize) -> u64
+    ensures { λ r. ⌜ r ≡ openRefusal instrument cells ⌝ }
+{
+    if instrument::is_valid(instrument) {
+        return work_refusal(instrument, cells);
+    }
+    RECORD
+}
+
+fn record_refusal(instrument: Instrument, session: Session, cells: usize) -> u64
+    ensures { λ r. ⌜ r ≡ recordRefusal instrument session cells ⌝ }
+{
+    if instrument::is_valid(instrument) {
+        if is_sound_session(instrument.key_count, session) {
+            return work_refusal(instrument, cells);
+        }
+    }
+    RECORD
+}
+
+// How many scratch cells play and go ask.
+fn scratch_cells(instrument: Instrument) -> usize
+    requires { ⌜ valid instrument ≡ true ⌝ }
+    ensures { λ r. ⌜ r ≡ scratchCells instrument ⌝ }
+{
+    6 * instrument.string_count
+}
+
+pub fn play_refusal(
+    instrument: Instrument,
+    session: Session,
+    cells: usize,
+    scratch: usize,
+    m: usize,
+    trace: usize,
+) -> u64
+    ensures { λ r. ⌜ r ≡ orElse (recordRefusal instrument session cells) (playRefusal instrument (session .t) scratch m trace) ⌝ }
+{
+    let refusal = record_refusal(instrument, session, cells);
+    if refusal != 0 {
+        return refusal;
+    }
+    if scratch < scratch_cells(instrument) {
+        return SCRATCH;
+    }
+    if trace < m {
+        return TRACE;
+    }
+    if END - session.t < m as u64 {
+        return PAST_END;
+    }
+    0
+}
+
+// Where fewer than four other cues are kept, t is kept already or a slot is free.
+pub fn cue_refusal(instrument: Instrument, session: Session, cells: usize) -> u64
+    ensures { λ r. ⌜ r ≡ orElse (recordRefusal instrument session cells) (cueRefusal (session .t) (keptOf (session .cues))) ⌝ }
+{
+    let refusal = record_refusal(instrument, session, cells);
+    if refusal != 0 {
+        return refusal;
+    }
+    let slots = session.cues;
+    if cues::slot_at(slots, 0, session.t) < 4 {
+        return 0;
+    }
+    if cues::free_slot(slots) < 4 {
+        return 0;
+    }
+    CUES_FULL
+}
+
+// Where a go to p starts: the greatest of 0, the kept cues and t, of those not above p.
+pub fn start_of(session: Session, p: u64) -> u64
+    ensures { λ r. ⌜ (r ≡ startOf (session .t) (keptOf (session .cues)) p) × (r ≤ p) × (length (session .cues) ≡ 4) ⌝ }
+{
+    let slots = session.cues;
+    let near = cues::nearest(slots, p);
+    if (session.t <= p) & (near < session.t) {
+        session.t
+    } else {
+        near
+    }
+}
+
+pub fn go_refusal(
+    instrument: Instrument,
+    session: Session,
+    cells: usize,
+    scratch: usize,
+    p: u64,
+) -> u64
+    ensures { λ r. ⌜ r ≡ orElse (recordRefusal instrument session cells) (goRefusal instrument scratch p (startOf (session .t) (keptOf (session .cues)) p)) ⌝ }
+{
+    let refusal = record_refusal(instrument, session, cells);
+    if refusal != 0 {
+        return refusal;
+    }
+    if scratch < scratch_cells(instrument) {
+        return SCRATCH;
+    }
+    if END < p {
+        return PAST_END;
+    }
+    if LONGEST < p - start_of(session, p) {
+        return REPLAY;
+    }
+    0
+}
+
+pub fn insert_refusal(
+    instrument: Instrument,
+    session: Session,
+    cells: usize,
+    timed: TimedEvent,
+) -> u64
+    ensures { λ r. ⌜ r ≡ orElse (recordRefusal instrument session cells) (insertRefusal (session .count) timed) ⌝ }
+{
+    let refusal = record_refusal(instrument, session, cells);
+    if refusal != 0 {
+        return refusal;
+    }
+    if END < timed.position {
+        return PAST_END;
+    }
+    if 64 <= session.count {
+        return SCORE_FULL;
+    }
+    let event = timed.event;
+    if score_edits::is_sound_velocity(event) {
+        return 0;
+    }
+    VELOCITY
+}
+
+pub fn remove_refusal(instrument: Instrument, session: Session, cells: usize, index: usize) -> u64
+    ensures { λ r. ⌜ r ≡ orElse (recordRefusal instrument session cells) (removeRefusal (session .count) index) ⌝ }
+{
+    let refusal = record_refusal(instrument, session, cells);
+    if refusal != 0 {
+        return refusal;
+    }
+    if session.count <= index {
+        return NO_EVENT;
+    }
+    0
+}

@@ -1,0 +1,91 @@
+// Mono WAV files of 64-bit floats: format 3, with the chunk `fact` that the format asks for.
+ghost use mathlib.Core.Path.{_≡_};
+ghost use Prim.Native.Nat.{_≤_};
+ghost use lib.ListN.{length};
+
+pub const HEADER: usize = 58;
+
+// The byte of n that is worth 256^i.
+fn byte_of(n: u64, i: usize) -> u8 {
+    let mut m = n;
+    for k in 0..i {
+        m = m / 256;
+    }
+    (m % 256) as u8
+}
+
+// One byte, where there is a place for it.
+fn store(b: &mut [u8], p: usize, x: u8)
+    ensures { λ _. ⌜ length (now (b .exit)) ≡ length (now (b .entry)) ⌝ }
+{
+    if p < b.len() {
+        b[p] = x;
+    }
+}
+
+// `count` bytes of n at `at`, the lowest first; as many as fit.
+fn put(b: &mut [u8], at: usize, n: u64, count: usize) {
+    for i in 0..count {
+        store(b, std::num::wrapping_add_usize(at, i), byte_of(n, i));
+    }
+}
+
+fn put_text(b: &mut [u8], at: usize, text: &[u8]) {
+    for i in 0..text.len() {
+        store(b, std::num::wrapping_add_usize(at, i), text[i]);
+    }
+}
+
+fn clipped(n: u64, most: u64) -> u64
+    ensures { λ r. ⌜ r ≤ most ⌝ }
+{
+    if n < most { n } else { most }
+}
+
+// A file's first bytes: `count` samples at `rate` a second. Sizes of over 32 bits stop at the largest.
+pub fn header(rate: u64, count: u64) -> [u8; 58] {
+    let samples = clipped(count, 0x1fff_fff0);
+    let size = samples * 8;
+    let pace = clipped(rate, 0x1fff_ffff) * 8;
+    let mut h = [0u8; 58];
+    put_text(&mut h, 0, b"RIFF");
+    put(&mut h, 4, 50 + size, 4);
+    put_text(&mut h, 8, b"WAVEfmt ");
+    put(&mut h, 16, 18, 4);
+    put(&mut h, 20, 3, 2);
+    put(&mut h, 22, 1, 2);
+    put(&mut h, 24, rate, 4);
+    put(&mut h, 28, pace, 4);
+    put(&mut h, 32, 8, 2);
+    put(&mut h, 34, 64, 2);
+    put_text(&mut h, 38, b"fact");
+    put(&mut h, 42, 4, 4);
+    put(&mut h, 46, samples, 4);
+    put_text(&mut h, 50, b"data");
+    put(&mut h, 54, size, 4);
+    h
+}
+
+// A float's bits; one pattern stands for every NaN.
+pub fn bits_of(x: f64) -> u64 {
+    if x != x {
+        0x7ff8_0000_0000_0000
+    } else {
+        f64::to_bits(x)
+    }
+}
+
+// As many of the samples as the bytes hold, eight bytes each; how many bytes that is.
+pub fn put_samples(samples: &[f64], bytes: &mut [u8]) -> usize
+    ensures { λ r. ⌜ r ≤ length (now (bytes .exit)) ⌝ }
+{
+    let mut at = 0usize;
+    for i in 0..samples.len() {
+        if bytes.len() - at < 8 {
+            return at;
+        }
+        put(bytes, at, bits_of(samples[i]), 8);
+        at += 8;
+    }
+    at
+}
