@@ -1,0 +1,527 @@
+//! Random lists of calls for the program `rehearse`: an instrument and a script that goes to the edges of every
+//! number, by what the plain machine holds at that line.
+
+use crate::common::Random;
+use crate::console::{Call, Console, BLOCK, SCRATCH, TRACE, WORK};
+use crate::instrument::Instrument;
+use crate::instruments::{self, pick, Size};
+use crate::machine::{END, MOST_EVENTS, MOST_REPLAYED};
+
+/// What a list is mostly made of.
+#[derive(Clone, Copy, PartialEq, Eq, Debug)]
+pub enum Theme {
+    /// All calls on an ordinary instrument.
+    Mixed,
+    /// All calls on an instrument at the ends of its ranges.
+    Wild,
+    /// Edits at cues, at t and around them.
+    Edits,
+    /// A score of 64 events, and one more.
+    Full,
+    /// Lent lengths one short.
+    Lent,
+    /// Steps of a million samples, and one more; blocks of 65,536.
+    Far,
+    /// 16 keys, 32 strings, 66 stages, long lines.
+    Large,
+    /// All the way to the last position: 2,000 steps of a million samples.
+    End,
+}
+
+pub struct List {
+    pub theme: Theme,
+    pub instrument: Instrument,
+    pub script: String,
+}
+
+/// No list but those of theme Far and Large goes further: every answer takes a render from silence.
+const NEAR: u64 = 4_000;
+
+struct Writer<'a> {
+    random: &'a mut Random,
+    keys: Vec<u8>,
+    strings: u64,
+    cells: u64,
+    /// It knows what every line does to the session; it renders nothing here.
+    console: Console<'a>,
+    script: String,
+}
+
+impl Writer<'_> {
+    fn chance(&mut self, one_in: u64) -> bool {
+        self.random.below(one_in) == 0
+    }
+
+    /// The line goes into the script, and its call to the machine.
+    fn line(&mut self, line: String) {
+        let words: Vec<&str> = line.split(' ').collect();
+        if let Some(call) = crate::console::call_of(&words) {
+            self.follow(call);
+        }
+        match self.random.below(40) {
+            0 => self.script.push_str(&line.replace(' ', "\t ")),
+            1 => self.script.push_str(&format!(" {line}\t")),
+            _ => self.script.push_str(&line),
+        }
+        self.script.push('\n');
+    }
+
+    fn follow(&mut self, call: Call) {
+        let Console { machine, lent, .. } = &mut self.console;
+        let _ = match call {
+            Call::Play(m) => machine.play(lent, m),
+            Call::Cue => machine.cue(lent),
+            Call::Go(p) => machine.go(lent, p).map(|_| ()),
+            Call::Insert(q, event) => machine.insert(lent, q, event).map(|_| ()),
+            Call::Remove(i) => machine.remove(lent, i).map(|_| ()),
+            Call::LendScratch(n) => Ok(lent.scratch = n as usize),
+            Call::LendTrace(n) => Ok(lent.trace = n as usize),
+            Call::LendWork(n) => Ok(lent.work = n as usize),
+            Call::Energies | Call::State => Ok(()),
+        };
+    }
+
+    // ---- numbers
+
+    /// A position that something happens at, or the one beside it.
+    fn place(&mut self) -> u64 {
+        let machine = &self.console.machine;
+        let mut places = vec![0, machine.t];
+        places.extend(&machine.cues);
+        places.extend(&machine.cues);
+        places.extend(machine.score.iter().map(|(q, _)| *q).filter(|q| *q <= NEAR));
+        let place = pick(self.random, &places);
+        match self.random.below(4) {
+            0 => place.saturating_sub(1),
+            1 => place + 1,
+            _ => place,
+        }
+    }
+
+    fn beyond(&mut self) -> u64 {
+        pick(self.random, &[END + 1, END + 2, u32::MAX as u64, u64::MAX, u64::MAX - 1])
+    }
+
+    fn position(&mut self) -> u64 {
+        let near = self.console.machine.t + 120;
+        match self.random.below(12) {
+            0 => self.random.below(near),
+            1 => self.console.machine.t + self.random.below(60),
+            2 => self.console.machine.t.saturating_sub(self.random.below(60)),
+            3 => pick(self.random, &[END, END - 1]),
+            4 => self.beyond(),
+            _ => self.place(),
+        }
+    }
+
+    fn block(&mut self) -> u64 {
+        match self.random.below(24) {
+            0 | 1 => 0,
+            2..=4 => 1,
+            5 => self.random.below(1_200),
+            6..=9 => 100 + self.random.below(200),
+            _ => 2 + self.random.below(60),
+        }
+    }
+
+    fn key(&mut self) -> u8 {
+        if self.chance(10) {
+            self.random.below(256) as u8
+        } else {
+            pick(self.random, &self.keys)
+        }
+    }
+
+    fn velocity(&mut self) -> String {
+        let hexadecimal = |x: f64| format!("0x{:016x}", x.to_bits());
+        match self.random.below(20) {
+            0 => pick(self.random, &["100", "-100", "100.0", "-100.000000000000"]).to_string(),
+            1 => pick(self.random, &["100.000000000001", "-100.000000000001", "101", "-999999999999999"]).to_string(),
+            2 => pick(self.random, &[100f64, -100.0].map(hexadecimal)),
+            3 => pick(self.random, &[100f64.next_up(), (-100f64).next_down(), f64::MAX].map(hexadecimal)),
+            4 => pick(self.random, &["0x7FF8000000000000", "0xfff8000000000000", "0x7ff0000000000001"]).to_string(),
+            5 => pick(self.random, &[f64::INFINITY, f64::NEG_INFINITY].map(hexadecimal)),
+            6 => pick(self.random, &["0", "-0", "0.0", "0.00000000000001"]).to_string(),
+            7 => pick(self.random, &[0.0, -0.0, f64::from_bits(1), 1e-300].map(hexadecimal)),
+            8 => format!("-{:.3}", self.random.between(0.0, 9.0)),
+            9 => format!("+{:.12}", self.random.between(0.0, 99.0)),
+            10 => hexadecimal(self.random.between(-100.0, 100.0)),
+            _ => format!("{:.2}", self.random.between(0.3, 8.0)),
+        }
+    }
+
+    // ---- lines
+
+    fn insert_at(&mut self, q: u64) {
+        let key = self.key();
+        let line = match self.random.below(12) {
+            0 | 1 => format!("insert {q} off {key}"),
+            2 => format!("insert {q} pedal down"),
+            3 => format!("insert {q} pedal up"),
+            4 => format!("insert {q} hand {key}"),
+            _ => format!("insert {q} on {key} {}", self.velocity()),
+        };
+        self.line(line);
+    }
+
+    fn insert(&mut self) {
+        let q = self.position();
+        self.insert_at(q);
+    }
+
+    fn remove(&mut self) {
+        let count = self.console.machine.score.len() as u64;
+        let index = match self.random.below(8) {
+            0 => count,
+            1 => pick(self.random, &[count + 1, 64, 255, 1 << 32, u64::MAX]),
+            2 => count.saturating_sub(1),
+            _ => self.random.below(count.max(1)),
+        };
+        self.line(format!("remove {index}"));
+    }
+
+    /// A go that is refused, or stays near.
+    fn go(&mut self) {
+        let p = match self.random.below(8) {
+            0 => self.position(),
+            1 => self.over_a_million(),
+            _ => self.place(),
+        };
+        let machine = &self.console.machine;
+        let p = if p > NEAR && p <= END && p - machine.go_start(p) <= MOST_REPLAYED { NEAR } else { p };
+        self.line(format!("go {p}"));
+    }
+
+    /// The first position that no go reaches from here.
+    fn over_a_million(&mut self) -> u64 {
+        let machine = &self.console.machine;
+        let start = machine.cues.iter().copied().max().unwrap_or(0).max(machine.t);
+        start + MOST_REPLAYED + 1 + self.random.below(3)
+    }
+
+    fn lend(&mut self) {
+        let machine = &self.console.machine;
+        let m = machine.t.min(TRACE);
+        let (what, enough, most) = pick(
+            self.random,
+            &[("scratch", 6 * self.strings, SCRATCH), ("trace", m, TRACE), ("work", 5 * self.cells, WORK)],
+        );
+        let count = match self.random.below(10) {
+            0 => 0,
+            1 => most,
+            2 => most + 1,
+            3 | 4 => enough,
+            _ => enough.saturating_sub(1),
+        };
+        self.line(format!("lend {what} {count}"));
+    }
+
+    /// One call with one lent length too short by a cell, or just long enough; then all is lent again.
+    fn lend_for_one_call(&mut self) {
+        let m = self.block();
+        let short = self.random.below(4) > 0;
+        let (what, enough, all) = pick(
+            self.random,
+            &[("scratch", 6 * self.strings, 6 * self.strings), ("trace", m, TRACE), ("work", 5 * self.cells, WORK)],
+        );
+        self.line(format!("lend {what} {}", enough.saturating_sub(short as u64)));
+        if what == "trace" {
+            self.line(format!("play {m}"));
+        } else {
+            self.call();
+        }
+        if !self.chance(4) {
+            self.line(format!("lend {what} {all}"));
+        }
+    }
+
+    fn bad(&mut self) {
+        let lines = [
+            "play",
+            "play -1",
+            "play x",
+            "play 65537",
+            "play 5 5",
+            "cue 3",
+            "go",
+            "go 1.5",
+            "go 18446744073709551616",
+            "insert",
+            "insert 5",
+            "insert 5 on",
+            "insert 5 on 60",
+            "insert 5 on 256 1",
+            "insert x on 60 1",
+            "insert 5 on 60 1 1",
+            "insert 5 on 60 1e1",
+            "insert 5 on 60 nan",
+            "insert 5 on 60 inf",
+            "insert 5 on 60 1234567890.123456",
+            "insert 5 on 60 0x123",
+            "insert 5 on 60 --1",
+            "insert 5 off",
+            "insert 5 pedal",
+            "insert 5 pedal sideways",
+            "insert 5 hand",
+            "insert 5 strike 60",
+            "remove",
+            "remove -1",
+            "lend",
+            "lend work",
+            "lend memory 5",
+            "lend scratch 257",
+            "lend trace 65537",
+            "lend work 662001",
+            "jump 5",
+            "Play 5",
+            "state 1",
+            "insert 5 on 60 0x40590000000000000",
+            "insert 5 off 60 1",
+            "remove 1 1",
+        ];
+        let line = pick(self.random, &lines);
+        self.line(line.to_string());
+    }
+
+    fn remark(&mut self) {
+        let line = pick(self.random, &["", "# a remark", "  ", "\t", "#play 5"]);
+        self.script.push_str(line);
+        self.script.push('\n');
+    }
+
+    fn call(&mut self) {
+        match self.random.below(20) {
+            0..=6 => {
+                let m = self.block();
+                self.line(format!("play {m}"));
+            }
+            7..=9 => self.line("cue".to_string()),
+            10..=12 => self.go(),
+            13..=17 => self.insert(),
+            _ => self.remove(),
+        }
+    }
+
+    fn state(&mut self) {
+        self.line("state".to_string());
+    }
+
+    fn energies(&mut self, asked: bool) {
+        if asked && self.chance(4) {
+            self.line("energies".to_string());
+        }
+    }
+
+    // ---- lists
+
+    /// A note or two from the start, so that something sounds.
+    fn prelude(&mut self) {
+        for _ in 0..1 + self.random.below(3) {
+            let q = self.random.below(40);
+            let key = pick(self.random, &self.keys);
+            let velocity = self.random.between(1.0, 7.0);
+            self.line(format!("insert {q} on {key} {velocity:.3}"));
+        }
+    }
+
+    fn mixed(&mut self, energies: bool) {
+        for _ in 0..8 + self.random.below(24) {
+            match self.random.below(24) {
+                0 => self.lend(),
+                1 => self.lend_for_one_call(),
+                2 => self.bad(),
+                3 => self.remark(),
+                4..=8 => self.state(),
+                _ => self.call(),
+            }
+            self.energies(energies);
+        }
+    }
+
+    /// The fastest loop takes some 450 samples to pass the largest number.
+    fn blow_up(&mut self) {
+        if self.chance(2) {
+            self.line("cue".to_string());
+            let m = 400 + self.random.below(800);
+            self.line(format!("play {m}"));
+        }
+    }
+
+    /// Cues at several positions, then edits at them; what each leaves is played on.
+    fn edits(&mut self) {
+        for _ in 0..3 + self.random.below(4) {
+            let m = self.block();
+            self.line(format!("play {m}"));
+            self.line("cue".to_string());
+        }
+        for _ in 0..4 + self.random.below(8) {
+            let q = self.place();
+            if self.chance(3) {
+                self.remove();
+            } else {
+                self.insert_at(q);
+            }
+            self.state();
+            match self.random.below(3) {
+                0 => self.go(),
+                1 => self.line("cue".to_string()),
+                _ => (),
+            }
+            let m = self.block();
+            self.line(format!("play {m}"));
+        }
+    }
+
+    /// The score is filled, then calls meet it full: a removal makes place for one event.
+    fn full(&mut self) {
+        let mut turns = 0;
+        while self.console.machine.score.len() < MOST_EVENTS && turns < 200 {
+            let q = self.random.below(400);
+            self.insert_at(q);
+            turns += 1;
+        }
+        for _ in 0..4 {
+            self.insert();
+            self.call();
+            if self.chance(3) {
+                self.remove();
+            }
+        }
+        self.state();
+        let m = self.block();
+        self.line(format!("play {m}"));
+    }
+
+    fn lent(&mut self) {
+        for _ in 0..6 + self.random.below(10) {
+            self.lend_for_one_call();
+            if self.chance(3) {
+                self.state();
+            }
+        }
+    }
+
+    /// A go of exactly a million samples is accepted, one more is not; a cue on the way shortens the way back.
+    fn far(&mut self) {
+        let m = self.random.below(300);
+        self.line(format!("play {m}"));
+        if self.chance(2) {
+            self.line("cue".to_string());
+        }
+        self.line(format!("go {}", m + MOST_REPLAYED + 1));
+        let most = m + MOST_REPLAYED - self.random.below(2);
+        self.line(format!("go {most}"));
+        self.state();
+        self.line("cue".to_string());
+        self.line("play 40".to_string());
+        let key = pick(self.random, &self.keys);
+        let q = m + MOST_REPLAYED + pick(self.random, &[0, 10, 39, 40, 41]);
+        self.line(format!("insert {q} on {key} 4"));
+        self.line("state".to_string());
+        self.line(format!("go {}", m + MOST_REPLAYED + 100));
+        self.line("play 64".to_string());
+        let back = pick(self.random, &[m, m + 1, MOST_REPLAYED, MOST_REPLAYED - 1, m + MOST_REPLAYED]);
+        self.line(format!("go {back}"));
+        self.line("play 16".to_string());
+        if self.chance(4) {
+            self.line(format!("play {BLOCK}"));
+        }
+        self.state();
+    }
+
+    /// Only here can a play pass the last position: its block is no longer than 65,536.
+    fn end(&mut self) {
+        for million in 1..END / MOST_REPLAYED {
+            self.line(format!("go {}", million * MOST_REPLAYED));
+        }
+        let key = self.keys[0];
+        let near = END - 1_000;
+        let lines = [
+            format!("go {near}"),
+            "cue".to_string(),
+            format!("insert {} on {key} 3", near + 500),
+            "play 900".to_string(),
+            "cue".to_string(),
+            "play 101".to_string(),
+            "play 100".to_string(),
+            "state".to_string(),
+            "cue".to_string(),
+            "play 0".to_string(),
+            "play 1".to_string(),
+            format!("go {END}"),
+            format!("go {}", END + 1),
+            format!("insert {END} off {key}"),
+            format!("insert {} on {key} 2", near + 950),
+            "state".to_string(),
+            format!("play {BLOCK}"),
+            "play 100".to_string(),
+            format!("go {near}"),
+            "play 1000".to_string(),
+            "play 1".to_string(),
+            "remove 0".to_string(),
+        ];
+        for line in lines {
+            self.line(line);
+        }
+    }
+
+    fn large(&mut self) {
+        for _ in 0..4 + self.random.below(6) {
+            self.call();
+            if self.chance(3) {
+                self.state();
+            }
+        }
+        if self.chance(8) {
+            self.line("play 4096".to_string());
+        }
+    }
+}
+
+fn instrument_for(random: &mut Random, theme: Theme) -> Instrument {
+    match theme {
+        Theme::Wild if random.below(8) == 0 => instruments::wild(random, Size::Large),
+        Theme::Wild => instruments::wild(random, Size::Small),
+        Theme::Far | Theme::End => instruments::lossless(random),
+        Theme::Large => instruments::ordinary(random, Size::Large),
+        _ => instruments::ordinary(random, Size::Small),
+    }
+}
+
+/// One list; with `energies` it asks for them too.
+pub fn list(random: &mut Random, theme: Theme, energies: bool) -> List {
+    let instrument = instrument_for(random, theme);
+    let script = {
+        let mut writer = Writer {
+            keys: instrument.keys.iter().map(|k| k.key).collect(),
+            strings: instrument.string_count() as u64,
+            cells: instrument.cells() as u64,
+            console: Console::open(&instrument),
+            script: String::new(),
+            random,
+        };
+        if theme != Theme::End && !writer.chance(10) {
+            writer.prelude();
+        }
+        match theme {
+            Theme::Mixed => writer.mixed(energies),
+            Theme::Wild => {
+                writer.blow_up();
+                writer.mixed(energies);
+            }
+            Theme::Edits => writer.edits(),
+            Theme::Full => writer.full(),
+            Theme::Lent => writer.lent(),
+            Theme::Far => writer.far(),
+            Theme::Large => writer.large(),
+            Theme::End => writer.end(),
+        }
+        writer.state();
+        writer.energies(energies);
+        if writer.chance(6) {
+            writer.script.pop(); // a last line need not end
+        }
+        writer.script
+    };
+    List { theme, instrument, script }
+}

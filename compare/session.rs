@@ -1,0 +1,408 @@
+//! Compares the program `rehearse` with the plain machine over the Rust renderer, through its own files:
+//! `session PROGRAM FOLDER [--energies] [--end] [--store SAMPLE]` runs PROGRAM on random lists of calls in FOLDER, and holds
+//! every answer, sample and force to the reference's. With --end it runs but one list, which goes to the last
+//! position. SAMPLE gets some of the lists with what they must give.
+
+#[allow(dead_code)]
+mod common;
+#[allow(dead_code)]
+mod console;
+mod design;
+mod instrument;
+mod instruments;
+mod lists;
+mod machine;
+#[allow(dead_code)]
+#[path = "../target/compare/model.rs"]
+mod model;
+mod power;
+
+use common::{alike, word, Random};
+use console::{Answer, HEADER};
+use lists::{List, Theme};
+use std::collections::BTreeMap;
+use std::fmt::Write as _;
+use std::fs;
+use std::path::{Path, PathBuf};
+use std::process::{exit, Command, Stdio};
+
+/// How many lists of each theme, and how many of them go into the stored sample.
+const LISTS: [(Theme, u64, usize); 7] = [
+    (Theme::Mixed, 1_000, 12),
+    (Theme::Wild, 500, 6),
+    (Theme::Edits, 400, 8),
+    (Theme::Full, 150, 3),
+    (Theme::Lent, 250, 4),
+    (Theme::Far, 24, 1),
+    (Theme::Large, 60, 2),
+];
+
+/// How many refused files of each number from 1 to 6; the first of each goes into the stored sample.
+const REFUSED_FILES: u64 = 40;
+
+/// How often each refusal from 8 to 16 must come.
+const EACH_REFUSAL: u64 = 100;
+
+/// A stored list has no more samples.
+const STORED_SAMPLES: usize = 300;
+
+fn fail(message: String) -> ! {
+    eprintln!("session: {message}");
+    exit(1)
+}
+
+/// What the program has made of one list.
+struct Made {
+    answers: String,
+    wav: Option<Vec<u8>>,
+    forces: Option<Vec<u8>>,
+}
+
+struct Rehearse {
+    program: PathBuf,
+    folder: PathBuf,
+}
+
+impl Rehearse {
+    fn path(&self, name: &str) -> PathBuf {
+        self.folder.join(name)
+    }
+
+    fn write(&self, name: &str, bytes: &[u8]) {
+        let path = self.path(name);
+        fs::write(&path, bytes).unwrap_or_else(|e| fail(format!("{}: {e}", path.display())));
+    }
+
+    /// The script goes in by a file or by standard input; the forces are asked for or not.
+    fn run(&self, instrument: &[u8], script: &str, by_input: bool, with_forces: bool) -> Made {
+        self.write("instrument", instrument);
+        self.write("script", script.as_bytes());
+        let [wav, forces] = ["out.wav", "forces"].map(|name| self.path(name));
+        for old in [&wav, &forces] {
+            let _ = fs::remove_file(old);
+        }
+        let mut command = Command::new(&self.program);
+        command.arg(self.path("instrument"));
+        if by_input {
+            let input = fs::File::open(self.path("script")).unwrap_or_else(|e| fail(format!("script: {e}")));
+            command.arg("-").stdin(input);
+        } else {
+            command.arg(self.path("script")).stdin(Stdio::null());
+        }
+        command.arg(&wav);
+        if with_forces {
+            command.arg(&forces);
+        }
+        let output = command.stderr(Stdio::null()).output();
+        let output = output.unwrap_or_else(|e| fail(format!("{}: {e}", self.program.display())));
+        let answers = String::from_utf8_lossy(&output.stdout).into_owned();
+        Made { answers, wav: fs::read(&wav).ok(), forces: fs::read(&forces).ok() }
+    }
+
+    /// A list that differs stays where it can be looked at.
+    fn keep(&self, made: &Made) {
+        self.write("stdout", made.answers.as_bytes());
+        println!("the instrument, the script and what the program made of them are in {}", self.folder.display());
+    }
+}
+
+// ---- one line beside the other
+
+/// A float's 16 digits, or `nan`.
+fn float_of(text: &str) -> Option<f64> {
+    if text == "nan" {
+        return Some(f64::NAN);
+    }
+    let digits = text.len() == 16 && text.bytes().all(|b| b.is_ascii_hexdigit());
+    if digits {
+        u64::from_str_radix(text, 16).ok().map(f64::from_bits)
+    } else {
+        None
+    }
+}
+
+fn floats_alike(a: &str, b: &str) -> bool {
+    matches!((float_of(a), float_of(b)), (Some(x), Some(y)) if alike(x, y))
+}
+
+/// One word beside the other: KEY:BITS by key and float, the word behind `peak` as a float, others as they stand.
+fn words_alike(before: &str, a: &str, b: &str) -> bool {
+    match (a.split_once(':'), b.split_once(':')) {
+        (Some((key, x)), Some((other, y))) => key == other && floats_alike(x, y),
+        _ if before == "peak" => floats_alike(a, b),
+        _ => a == b,
+    }
+}
+
+/// What stands before the free words of a refusal or a bad line.
+fn numbered(line: &str) -> Option<&str> {
+    if line.starts_with("refused ") || line.starts_with("bad line ") {
+        line.split_once(": ").filter(|(_, words)| !words.is_empty()).map(|(head, _)| head)
+    } else {
+        None
+    }
+}
+
+fn lines_alike(reference: &str, program: &str) -> bool {
+    if let Some(head) = numbered(reference) {
+        return numbered(program) == Some(head);
+    }
+    let [a, b]: [Vec<&str>; 2] = [reference, program].map(|line| line.split(' ').collect());
+    a.len() == b.len() && (0..a.len()).all(|i| words_alike(if i == 0 { "" } else { a[i - 1] }, a[i], b[i]))
+}
+
+// ---- a whole list
+
+fn floats(bytes: &[u8]) -> Vec<f64> {
+    bytes.chunks_exact(8).map(|b| f64::from_le_bytes(b.try_into().unwrap())).collect()
+}
+
+/// The first difference between a file's floats and the reference's.
+fn floats_differ(what: &str, reference: &[f64], bytes: &[u8]) -> Option<String> {
+    if bytes.len() != 8 * reference.len() {
+        return Some(format!("{what}: {} bytes, and the reference has {}", bytes.len(), 8 * reference.len()));
+    }
+    let program = floats(bytes);
+    let at = (0..program.len()).find(|i| !alike(program[*i], reference[*i]))?;
+    let [a, b] = [reference[at], program[at]].map(|x| format!("{:016x} ({x:e})", x.to_bits()));
+    Some(format!("{what} {at} of {}: the reference has {a}, the program {b}", program.len()))
+}
+
+fn answers_differ(reference: &[Answer], program: &str) -> Option<String> {
+    let program: Vec<&str> = program.split_terminator('\n').collect();
+    for (i, answer) in reference.iter().enumerate() {
+        match program.get(i) {
+            Some(line) if lines_alike(&answer.text, line) => (),
+            Some(line) => return Some(format!("answer {i}: `{}`, and the program says `{line}`", answer.text)),
+            None => return Some(format!("answer {i}: `{}`, and the program says nothing", answer.text)),
+        }
+    }
+    program.get(reference.len()).map(|line| format!("the program says more: `{line}`"))
+}
+
+fn wav_differs(fs: f64, samples: &[f64], wav: Option<&[u8]>) -> Option<String> {
+    let Some(wav) = wav else {
+        return Some("the program wrote no WAV file".to_string());
+    };
+    let header = console::wav_header(fs, samples.len());
+    if wav.len() < HEADER || wav[..HEADER] != header {
+        let head = &wav[..wav.len().min(HEADER)];
+        return Some(format!("the WAV's header: the reference has {header:02x?}, the program {head:02x?}"));
+    }
+    floats_differ("sample", samples, &wav[HEADER..])
+}
+
+/// What was compared, by kind.
+#[derive(Default)]
+struct Counts {
+    lists: BTreeMap<String, u64>,
+    answers: BTreeMap<String, u64>,
+    refusals: BTreeMap<u8, u64>,
+    samples: u64,
+    wild_samples: u64,
+    sounding: u64,
+    forces: u64,
+    contacts: u64,
+}
+
+/// The refusal's number in an answer.
+fn refusal_in(answer: &str) -> Option<u8> {
+    answer.strip_prefix("refused ")?.split(':').next()?.parse().ok()
+}
+
+fn add<K: Ord>(counts: &mut BTreeMap<K, u64>, kind: K) {
+    *counts.entry(kind).or_insert(0) += 1;
+}
+
+impl Counts {
+    fn answer(&mut self, call: &str, answer: &Answer) {
+        let kind = match refusal_in(&answer.text) {
+            Some(number) => {
+                add(&mut self.refusals, number);
+                format!("{call} refused {number}")
+            }
+            None if answer.text.starts_with("bad line") => "bad line".to_string(),
+            None => call.to_string(),
+        };
+        add(&mut self.answers, kind);
+        self.samples += answer.samples.len() as u64;
+        self.wild_samples += answer.samples.iter().filter(|x| !x.is_finite()).count() as u64;
+        self.sounding += answer.samples.iter().filter(|x| **x != 0.0).count() as u64;
+        self.forces += answer.forces.len() as u64;
+        self.contacts += answer.forces.iter().filter(|x| **x > 0.0).count() as u64;
+    }
+
+    fn report(&self) {
+        for (theme, count) in &self.lists {
+            println!("lists    {theme:<24} {count:>9}");
+        }
+        for (kind, count) in &self.answers {
+            println!("answers  {kind:<24} {count:>9}");
+        }
+        for (number, count) in &self.refusals {
+            println!("refusal  {number:<24} {count:>9}");
+        }
+        let (samples, sounding, wild) = (self.samples, self.sounding, self.wild_samples);
+        println!("samples  {samples} compared, {sounding} not zero, {wild} infinite or NaN");
+        println!("forces   {} compared, {} above zero", self.forces, self.contacts);
+    }
+
+    /// Whether each refusal from 8 to 16 came often enough.
+    fn enough(&self) -> bool {
+        let rare: Vec<u8> = (8..=16).filter(|n| self.refusals.get(n).copied().unwrap_or(0) < EACH_REFUSAL).collect();
+        if !rare.is_empty() {
+            println!("too few of the refusals {rare:?}: each is wanted {EACH_REFUSAL} times");
+        }
+        rare.is_empty()
+    }
+}
+
+/// The lines of a script that are answered, with their answers.
+fn answered<'a>(list: &'a List, answers: &'a [Answer]) -> Vec<(&'a str, &'a Answer)> {
+    let skipped = |line: &&str| line.trim().is_empty() || line.starts_with('#');
+    let lines = list.script.lines().filter(|line| !skipped(line));
+    lines.zip(&answers[1..]).collect()
+}
+
+/// The words that make a call's kind: `insert .. on` is an insert.
+fn kind_of(line: &str) -> String {
+    let words: Vec<&str> = line.split_whitespace().collect();
+    match words.as_slice() {
+        ["lend", what, ..] => format!("lend {what}"),
+        ["insert", _, event, ..] => format!("insert {event}"),
+        [call, ..] => call.to_string(),
+        [] => String::new(),
+    }
+}
+
+fn hexadecimal(bytes: &[u8]) -> String {
+    bytes.iter().map(|b| format!("{b:02x}")).collect()
+}
+
+fn words(floats: &[f64]) -> String {
+    floats.iter().map(|x| format!(" {:016x}", word(*x))).collect()
+}
+
+// ---- the stored sample
+
+/// A list as the sample has it: each line, then its answer, without a refusal's free words, and what it played.
+fn stored(list: &List, answers: &[Answer]) -> String {
+    let head = |answer: &Answer| numbered(&answer.text).unwrap_or(&answer.text).to_string();
+    let mut text = format!("list {:?}\n", list.theme).to_lowercase();
+    let _ = writeln!(text, "instrument {}", hexadecimal(&list.instrument.bytes()));
+    let _ = writeln!(text, "answer {}", head(&answers[0]));
+    for (line, answer) in answered(list, answers) {
+        let _ = writeln!(text, "line {line}\nanswer {}", head(answer));
+        for (name, floats) in [("samples", &answer.samples), ("forces", &answer.forces)] {
+            if !floats.is_empty() {
+                let _ = writeln!(text, "{name}{}", words(floats));
+            }
+        }
+    }
+    text
+}
+
+fn stored_refusal(file: &[u8], number: u8) -> String {
+    format!("list file\ninstrument {}\nanswer refused {number}\n", hexadecimal(file))
+}
+
+fn few_samples(answers: &[Answer]) -> bool {
+    answers.iter().map(|answer| answer.samples.len()).sum::<usize>() <= STORED_SAMPLES
+}
+
+// ---- all lists
+
+struct Comparison {
+    rehearse: Rehearse,
+    energies: bool,
+    counts: Counts,
+    sample: Vec<String>,
+}
+
+impl Comparison {
+    fn differs(&self, made: &Made, script: &str, difference: String) -> ! {
+        println!("{script}");
+        println!("{difference}");
+        self.rehearse.keep(made);
+        exit(1)
+    }
+
+    /// One list on both sides; where its blocks are short, what it gave as the sample has it.
+    fn list(&mut self, theme: Theme, turn: u64) -> Option<String> {
+        let mut random = Random::new((theme as u64 + 1) << 32 | turn);
+        let list = lists::list(&mut random, theme, self.energies);
+        let (by_input, with_forces) = (turn % 5 == 0, turn % 8 != 0);
+        let answers = console::answers(&list.instrument, &list.script);
+        let made = self.rehearse.run(&list.instrument.bytes(), &list.script, by_input, with_forces);
+        let samples: Vec<f64> = answers.iter().flat_map(|answer| &answer.samples).copied().collect();
+        let forces: Vec<f64> = answers.iter().flat_map(|answer| &answer.forces).copied().collect();
+        let difference = answers_differ(&answers, &made.answers)
+            .or_else(|| wav_differs(list.instrument.common.fs, &samples, made.wav.as_deref()))
+            .or_else(|| match &made.forces {
+                Some(bytes) => floats_differ("force", &forces, bytes),
+                None if with_forces => Some("the program wrote no forces".to_string()),
+                None => None,
+            });
+        if let Some(difference) = difference {
+            self.differs(&made, &format!("list {turn} of {theme:?}:\n{}", list.script), difference);
+        }
+        add(&mut self.counts.lists, format!("{theme:?}"));
+        self.counts.answer("open", &answers[0]);
+        for (line, answer) in answered(&list, &answers) {
+            self.counts.answer(&kind_of(line), answer);
+        }
+        few_samples(&answers).then(|| stored(&list, &answers))
+    }
+
+    fn refused_file(&mut self, number: u8, turn: u64) {
+        let mut random = Random::new((number as u64) << 40 | turn);
+        let file = instruments::refused_file(&mut random, number);
+        let Err(refusal) = instrument::read(&file) else {
+            fail(format!("file {turn} for refusal {number} is accepted by the reference"));
+        };
+        let made = self.rehearse.run(&file, "state\n", false, true);
+        let answer = Answer { text: console::refused(refusal), ..Answer::default() };
+        if let Some(difference) = answers_differ(&[answer], &made.answers) {
+            self.differs(&made, &format!("file {turn} for refusal {number}:"), difference);
+        }
+        add(&mut self.counts.lists, "refused file".to_string());
+        add(&mut self.counts.refusals, refusal);
+        if turn == 0 {
+            self.sample.push(stored_refusal(&file, refusal));
+        }
+    }
+}
+
+fn main() {
+    let arguments: Vec<String> = std::env::args().skip(1).collect();
+    let Some(([program, folder], options)) = arguments.split_first_chunk() else {
+        fail("usage: session PROGRAM FOLDER [--energies] [--end] [--store SAMPLE]".to_string());
+    };
+    let store = options.iter().position(|o| o == "--store").map(|i| options[i + 1].clone());
+    let rehearse = Rehearse { program: Path::new(program).to_path_buf(), folder: Path::new(folder).to_path_buf() };
+    let energies = options.iter().any(|o| o == "--energies");
+    let mut comparison = Comparison { rehearse, energies, counts: Counts::default(), sample: Vec::new() };
+    if options.iter().any(|o| o == "--end") {
+        let _ = comparison.list(Theme::End, 0);
+        comparison.counts.report();
+        println!("the list to the last position does not differ");
+        exit(0);
+    }
+    for (theme, count, most_stored) in LISTS {
+        let short: Vec<String> = (0..count).filter_map(|turn| comparison.list(theme, turn)).collect();
+        comparison.sample.extend(short.into_iter().take(most_stored));
+    }
+    for number in 1..=6 {
+        for turn in 0..REFUSED_FILES {
+            comparison.refused_file(number, turn);
+        }
+    }
+    comparison.counts.report();
+    println!("no list differs");
+    if let Some(path) = store {
+        let sample = comparison.sample.concat();
+        fs::write(&path, &sample).unwrap_or_else(|e| fail(format!("{path}: {e}")));
+        println!("{path} has {} lists, {} bytes", comparison.sample.len(), sample.len());
+    }
+    exit(if comparison.counts.enough() { 0 } else { 1 });
+}
