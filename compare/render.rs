@@ -1,6 +1,6 @@
 //! Compares the proved renderer with the Rust: random instruments and scores, every sample and force, and after each
 //! block the whole state, bit for bit, zeros and NaNs alike. The proved side is cut into blocks at random places; the
-//! Rust renders from silence in one run.
+//! Rust renders from silence in one run. With a file's name it also writes a sample of the Rust's renders there.
 
 #[allow(dead_code)]
 mod common;
@@ -14,6 +14,7 @@ mod instruments;
 mod model;
 mod power;
 mod rendering;
+mod stored_renders;
 
 use common::{alike, all_alike, Random};
 use instrument::Instrument;
@@ -28,26 +29,42 @@ struct Kind {
     renders: u64,
     /// The most samples of a render.
     samples: u64,
+    /// How many further renders are stored where a sample is asked for.
+    stored: u64,
     instrument: fn(&mut Random) -> Instrument,
 }
 
 const KINDS: [Kind; 6] = [
-    Kind { name: "ordinary", renders: 500, samples: 1_200, instrument: |r| instruments::ordinary(r, Size::Small) },
+    Kind {
+        name: "ordinary",
+        renders: 500,
+        samples: 1_200,
+        stored: 14,
+        instrument: |r| instruments::ordinary(r, Size::Small),
+    },
     Kind {
         name: "one string, n = 4",
         renders: 60,
         samples: 1_200,
+        stored: 4,
         instrument: |r| instruments::ordinary(r, Size::Least),
     },
     Kind {
         name: "large, to 66 stages",
         renders: 120,
         samples: 500,
+        stored: 3,
         instrument: |r| instruments::ordinary(r, Size::Large),
     },
-    Kind { name: "wild", renders: 400, samples: 1_600, instrument: |r| instruments::wild(r, Size::Small) },
-    Kind { name: "wild and large", renders: 60, samples: 900, instrument: |r| instruments::wild(r, Size::Large) },
-    Kind { name: "lossless", renders: 30, samples: 20_000, instrument: instruments::lossless },
+    Kind { name: "wild", renders: 400, samples: 1_600, stored: 10, instrument: |r| instruments::wild(r, Size::Small) },
+    Kind {
+        name: "wild and large",
+        renders: 60,
+        samples: 900,
+        stored: 2,
+        instrument: |r| instruments::wild(r, Size::Large),
+    },
+    Kind { name: "lossless", renders: 30, samples: 20_000, stored: 2, instrument: instruments::lossless },
 ];
 
 // ---- scores
@@ -189,7 +206,34 @@ fn differs(
     None
 }
 
+/// Two short blocks with every sample, then up to three long ones with digests.
+fn stored_blocks(random: &mut Random, samples: u64) -> Vec<(usize, bool)> {
+    let mut blocks = vec![(1 + random.below(24) as usize, false), (random.below(40) as usize, false)];
+    blocks.extend((0..1 + random.below(3)).map(|_| (random.below(samples.min(4_096)) as usize, true)));
+    blocks
+}
+
+/// The stored renders are drawn apart from those that are compared.
+fn store(file: &str) {
+    let mut lines = Vec::new();
+    for (k, kind) in KINDS.iter().enumerate() {
+        for turn in 0..kind.stored {
+            let mut random = Random::new((k as u64 + 1) << 40 | turn);
+            let instrument = (kind.instrument)(&mut random);
+            let keys: Vec<u8> = instrument.keys.iter().map(|key| key.key).collect();
+            let span = 1 + random.below(kind.samples.min(1_000));
+            let events = score(&mut random, &keys, span);
+            let blocks = stored_blocks(&mut random, kind.samples);
+            lines.extend(stored_renders::lines(&instrument, &events, &blocks));
+        }
+    }
+    std::fs::write(file, lines.join("\n") + "\n").unwrap_or_else(|e| panic!("{file}: {e}"));
+}
+
 fn main() {
+    if let Some(file) = std::env::args().nth(1) {
+        store(&file);
+    }
     let mut counts = Counts::default();
     for (k, kind) in KINDS.iter().enumerate() {
         for turn in 0..kind.renders {

@@ -2,6 +2,11 @@
 // the Rust gave; both zeros and all NaNs count alike, but the root's zeros by their bits.
 use filter::LoopFilter;
 use hammer::Hammer;
+use little_endian::float_of;
+use stored_answers::alike;
+use stored_answers::all_alike;
+use stored_answers::load;
+use stored_answers::same_bits;
 ghost use mathlib.Core.Path.{_≡_};
 ghost use Prim.Native.Nat.{_+_, _*_};
 ghost use lib.ListN.{length};
@@ -21,28 +26,6 @@ fn judged(same: bool) -> Verdict {
         Verdict::Same
     } else {
         Verdict::Differs
-    }
-}
-
-// The number that a pattern stands for; NaN for each NaN's pattern.
-fn float_of(bits: u64) -> f64 {
-    if 0x7ff0_0000_0000_0000 < bits % 0x8000_0000_0000_0000 {
-        0.0 / 0.0
-    } else {
-        f64::from_bits(bits)
-    }
-}
-
-fn alike(r: f64, word: u64) -> bool {
-    let x = float_of(word);
-    if r != r { x != x } else { r == x }
-}
-
-fn same_bits(r: f64, word: u64) -> bool {
-    if r != r {
-        alike(r, word)
-    } else {
-        f64::to_bits(r) == word
     }
 }
 
@@ -132,29 +115,6 @@ pub fn cuts(words: &[u64]) -> Verdict {
     let damper = float_of(words[3]);
     let cuts = cuts::cut_string(words[0] as usize, phi, strike, damper);
     judged(cuts.na as u64 == words[4] && cuts.nb as u64 == words[5] && cuts.nc as u64 == words[6])
-}
-
-// The stored cells, as far as both reach.
-fn load(words: &[u64], cells: &mut [f64]) {
-    let mut i: usize = 0;
-    while i < words.len() && i < cells.len() {
-        cells[i] = float_of(words[i]);
-        i += 1;
-    }
-}
-
-fn all_alike(cells: &[f64], words: &[u64]) -> bool {
-    if cells.len() != words.len() {
-        return false;
-    }
-    let mut i: usize = 0;
-    while i < words.len() {
-        if !alike(cells[i], words[i]) {
-            return false;
-        }
-        i += 1;
-    }
-    true
 }
 
 pub fn allpass(words: &[u64]) -> Verdict {

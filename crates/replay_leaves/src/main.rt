@@ -1,15 +1,14 @@
 // Replays answers of the Rust that `compare/leaves` stored, with no Rust at hand: it reads them,
 // asks the leaves the same, and counts by kind what differs. A line that it cannot read counts too.
 mod answers;
-mod reading;
 
 use answers::Verdict;
 use libc::STDIN_FILENO;
 use libc::STDOUT_FILENO;
-use reading::Words;
-use reading::rest;
-use reading::starts;
 use std::num::wrapping_add_u64;
+use stored_answers::Words;
+use stored_answers::rest;
+use stored_answers::starts;
 
 // The stored answers of one kind have one name; the number is its place in the tally.
 fn kind_of(line: &[u8]) -> usize {
@@ -69,7 +68,7 @@ fn judge(kind: usize, words: &[u64]) -> Verdict {
 
 // The same of a line, whose words are read into `words`.
 fn judge_line(kind: usize, line: &[u8], words: &mut [u64]) -> Verdict {
-    match reading::read_words(rest(line), words) {
+    match stored_answers::read_words(rest(line), words) {
         Words::Count(n) => if n <= words.len() {
             judge(kind, &words[..n])
         } else {
@@ -111,7 +110,7 @@ fn count_line(tally: &mut [u64; 25], line: &[u8]) {
 fn count_lines(tally: &mut [u64; 25], text: &[u8]) {
     let mut at: usize = 0;
     while at < text.len() {
-        let end = reading::line_end(text, at);
+        let end = stored_answers::line_end(text, at);
         count_line(tally, &text[at..end]);
         at = end + 1;
     }

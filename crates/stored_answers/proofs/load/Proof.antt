@@ -3,8 +3,8 @@ use mathlib.Core.Path.{_≡_}
 use Prim.Native.Nat.{_-_}
 use lib.ListN.{length}
 use borrow.Author.Needs.{needs}
-use Rattle.replay_leaves.proofs.answers.load.Statement.{statement}
-use Rattle.replay_leaves.proofs.answers.load.Tie as tie
+use Rattle.stored_answers.proofs.load.Statement.{statement}
+use Rattle.stored_answers.proofs.load.Tie as tie
 
 abbrev Inv-loop : tie.InvT-loop
 Inv-loop words cells₀ i₀ cells i = length cells ≡ length cells₀

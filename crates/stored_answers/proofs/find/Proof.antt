@@ -2,8 +2,8 @@
 use Prim.Native.Nat.{_≤_, _-_}
 use lib.ListN.{length}
 use borrow.Author.Needs.{needs}
-use Rattle.replay_leaves.proofs.reading.find.Statement.{statement}
-use Rattle.replay_leaves.proofs.reading.find.Tie as tie
+use Rattle.stored_answers.proofs.find.Statement.{statement}
+use Rattle.stored_answers.proofs.find.Tie as tie
 
 abbrev Inv-loop : tie.InvT-loop
 Inv-loop text at b i₀ i = (at ≤ i) × (i ≤ length text)

@@ -3,8 +3,8 @@ use mathlib.Core.Path.{_≡_}
 use Prim.Native.Nat.{_-_}
 use lib.ListN.{length}
 use borrow.Author.Needs.{needs}
-use Rattle.replay_leaves.proofs.answers.all_alike.Statement.{statement}
-use Rattle.replay_leaves.proofs.answers.all_alike.Tie as tie
+use Rattle.stored_answers.proofs.all_alike.Statement.{statement}
+use Rattle.stored_answers.proofs.all_alike.Tie as tie
 
 abbrev Inv-loop : tie.InvT-loop
 Inv-loop cells words i₀ i = length cells ≡ length words

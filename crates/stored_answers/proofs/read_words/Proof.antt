@@ -3,8 +3,8 @@ use mathlib.Core.Path.{_≡_}
 use Prim.Native.Nat.{_≤_, _-_}
 use lib.ListN.{length}
 use borrow.Author.Needs.{needs}
-use Rattle.replay_leaves.proofs.reading.read_words.Statement.{statement}
-use Rattle.replay_leaves.proofs.reading.read_words.Tie as tie
+use Rattle.stored_answers.proofs.read_words.Statement.{statement}
+use Rattle.stored_answers.proofs.read_words.Tie as tie
 
 abbrev Inv-loop : tie.InvT-loop
 Inv-loop text words₀ n₀ at₀ words n at = (at ≤ length text) × (length words ≡ length words₀)

@@ -2,8 +2,8 @@
 use Prim.Native.Nat.{_≤_, _-_}
 use lib.ListN.{length}
 use borrow.Author.Needs.{needs}
-use Rattle.replay_leaves.proofs.reading.starts.Statement.{statement}
-use Rattle.replay_leaves.proofs.reading.starts.Tie as tie
+use Rattle.stored_answers.proofs.starts.Statement.{statement}
+use Rattle.stored_answers.proofs.starts.Tie as tie
 
 abbrev Inv-loop : tie.InvT-loop
 Inv-loop line name i₀ i = length name ≤ length line

@@ -1,5 +1,7 @@
-// A stored answer is a line: the kind's name, then words of sixteen hexadecimal digits, a space
-// before each. Whatever else stands there is unreadable.
+// Answers of the Rust as a file keeps them: a line is a kind's name, then words of sixteen hexadecimal digits, a space
+// before each. Whatever else stands there is unreadable. Both zeros and all NaNs count alike.
+use little_endian::float_of;
+ghost use mathlib.Core.Path.{_≡_};
 ghost use Prim.Native.Nat.{_≤_};
 ghost use lib.ListN.{length};
 
@@ -110,4 +112,63 @@ pub fn line_end(text: &[u8], at: usize) -> usize
 pub fn rest(line: &[u8]) -> &[u8] {
     let space = find(line, 0, b' ');
     &line[space..]
+}
+
+pub fn alike(r: f64, word: u64) -> bool {
+    let x = float_of(word);
+    if r != r { x != x } else { r == x }
+}
+
+// The same by their bits, zeros too; NaNs alike.
+pub fn same_bits(r: f64, word: u64) -> bool {
+    if r != r {
+        alike(r, word)
+    } else {
+        f64::to_bits(r) == word
+    }
+}
+
+// The stored cells, as far as both reach.
+pub fn load(words: &[u64], cells: &mut [f64])
+    ensures { λ _. ⌜ length (now (cells .exit)) ≡ length (now (cells .entry)) ⌝ }
+{
+    let mut i: usize = 0;
+    while i < words.len() && i < cells.len() {
+        cells[i] = float_of(words[i]);
+        i += 1;
+    }
+}
+
+pub fn all_alike(cells: &[f64], words: &[u64]) -> bool {
+    if cells.len() != words.len() {
+        return false;
+    }
+    let mut i: usize = 0;
+    while i < words.len() {
+        if !alike(cells[i], words[i]) {
+            return false;
+        }
+        i += 1;
+    }
+    true
+}
+
+// A float's bits, with one pattern for both zeros and one for all NaNs.
+fn bits(x: f64) -> u64 {
+    if x == 0.0 {
+        0
+    } else if x != x {
+        0x7ff8_0000_0000_0000
+    } else {
+        f64::to_bits(x)
+    }
+}
+
+// One word for many cells: each turn can be undone, so two lists that differ in one cell have different words.
+pub fn digest(cells: &[f64]) -> u64 {
+    let mut h: u64 = 0;
+    for i in 0..cells.len() {
+        h = std::num::wrapping_add_u64((h << 7) | (h >> 57), bits(cells[i]));
+    }
+    h
 }

@@ -1,8 +1,8 @@
 -- Safe and ending: the text has 17 bytes. Assumes nothing.
 use Prim.Native.Nat.{_≤_, _-_}
 use borrow.Author.Needs.{needs}
-use Rattle.replay_leaves.proofs.reading.read_word.Statement.{statement}
-use Rattle.replay_leaves.proofs.reading.read_word.Tie as tie
+use Rattle.stored_answers.proofs.read_word.Statement.{statement}
+use Rattle.stored_answers.proofs.read_word.Tie as tie
 
 abbrev Inv-loop : tie.InvT-loop
 Inv-loop text value₀ i₀ value i = i ≤ 17

@@ -1,8 +1,8 @@
 -- What does not differ from itself is no NaN, and has a pattern. Assumes nothing.
 use Rattle.float.specs.Numbers.{same-number}
 use borrow.Author.Needs.{needs}
-use Rattle.replay_leaves.proofs.answers.same_bits.Statement.{statement}
-use Rattle.replay_leaves.proofs.answers.same_bits.Tie as tie
+use Rattle.stored_answers.proofs.same_bits.Statement.{statement}
+use Rattle.stored_answers.proofs.same_bits.Tie as tie
 
 alike-requires : tie.Need-alike-requires
 alike-requires c κs = search needs
