@@ -1,4 +1,3 @@
 pub mod Refusals
 pub mod Machine
 pub mod Laws
-pub mod Rows
