@@ -61,7 +61,12 @@ impl Measured {
 
 /// Prints the table; true where every target is met.
 pub fn report(rows: &[Measured]) -> bool {
-    println!("| what | Rust, ns | Rattle, ns | ratio | target |");
+    report_sides(["Rust", "Rattle"], rows)
+}
+
+/// The same where the sides are others.
+pub fn report_sides(sides: [&str; 2], rows: &[Measured]) -> bool {
+    println!("| what | {}, ns | {}, ns | ratio | target |", sides[0], sides[1]);
     println!("|---|---:|---:|---:|---|");
     for row in rows {
         println!("| {} | {:.1} | {:.1} | {:.2} | {} |", row.what, row.rust, row.rattle, row.ratio(), row.verdict());

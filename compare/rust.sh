@@ -48,12 +48,13 @@ proved_program() {
     }
 }
 
-# rust_program SOURCE NAME [LIBRARY]: makes target/compare/NAME, linked with the proved library where one is named.
+# rust_program SOURCE NAME [LIBRARY..]: makes target/compare/NAME, linked with the proved libraries that are named.
 # No fast-math and no target-cpu: every operation is rounded once, as in the proved code.
 rust_program() {
-    local library=()
-    if [ $# -gt 2 ]; then
-        library=(-L native=target/staticlib -l "static=$3")
-    fi
-    rustc --edition 2021 -C opt-level=3 -o "target/compare/$2" "$1" "${library[@]}"
+    local source=$1 name=$2 libraries=()
+    shift 2
+    for library in "$@"; do
+        libraries+=(-l "static=$library")
+    done
+    rustc --edition 2021 -C opt-level=3 -o "target/compare/$name" "$source" -L native=target/staticlib "${libraries[@]}"
 }
