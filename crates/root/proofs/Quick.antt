@@ -34,6 +34,10 @@ after-2 n p d e l h = let s = sq-add p 2 in nearest-is n (p + 2) (omega arith) (
 pub after-3 : (n p d : ℕ) → p * p + d ≡ n → 5 * p + 6 < d → d ≤ 7 * p + 12 → p + 3 ≡ nearestRoot n
 after-3 n p d e l h = let s = sq-add p 3 in nearest-is n (p + 3) (omega arith) (omega arith) (omega arith)
 
+-- the pattern that a p was taken from, where the number after p is the root's
+pub pattern-is : (b low p r : ℕ) → (p + (low + 1)) % 2 ^ 64 ≡ b → p < 2 ^ 53 → low + 2 ^ 53 < 2 ^ 64 → p + 1 ≡ r → b ≡ low + r
+pattern-is b low p r w l h e = omega arith
+
 -- ---- a square by halves
 pub record Halves (a b : ℕ) : Type 0 where
   pub high : a * a ≤ 2 ^ 42

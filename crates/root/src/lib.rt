@@ -1,7 +1,9 @@
 // IEEE 754's squareRoot on f64, rounded once. A guess by Newton's steps is checked by one exact square,
 // which also tells the right neighbour; only where both miss are the digits found one by one.
 ghost use mathlib.Core.Path.{_≡_};
+ghost use mathlib.Core.Bool.{true};
 ghost use Prim.Native.Nat.{_+_, _*_, _^_, _<_};
+ghost use lib.Ieee.{ofBits, binary64};
 ghost use Rattle.root.specs.Root.{rootOf};
 ghost use Rattle.root.specs.Steps.{nearestRoot, Left, Scaled, Paired};
 
@@ -51,12 +53,29 @@ fn square(p: u64) -> Wide
     }
 }
 
-// The same as `nearest_root`, where c * 2^52 is known to be p * p + d: one of the three numbers
-// after p if d says so, and else by digits.
-fn settled(p: u64, d: u64, c: u64) -> u64
-    requires { ⌜ Left p d c ⌝ }
+// What c * 2^52 is more than p * p, where p has no more than 53 digits and that fits; else 0.
+fn excess(p: u64, c: u64) -> u64
+    requires { ⌜ c < 2 ^ 54 ⌝ }
+    ensures { λ r. ⌜ (0 < r → Left p r c) ⌝ }
+{
+    if p < 0x20_0000_0000_0000 {
+        let s = square(p);
+        let hi: u64 = c / 0x1000;
+        let lo: u64 = c % 0x1000 * 0x10_0000_0000_0000;
+        let d: u64 = std::num::wrapping_sub_u64(lo, s.lo);
+        let borrow: u64 = if lo < s.lo { 1 } else { 0 };
+        if s.hi + borrow == hi { d } else { 0 }
+    } else {
+        0
+    }
+}
+
+// The same as `nearest_root` for any p: quick where the root is one of the three numbers after p.
+fn rounded(p: u64, c: u64) -> u64
+    requires { ⌜ c < 2 ^ 54 ⌝ }
     ensures { λ r. ⌜ r ≡ nearestRoot (c * 2 ^ 52) ⌝ }
 {
+    let d = excess(p, c);
     if p < d {
         if d <= 3 * p + 2 {
             p + 1
@@ -72,29 +91,44 @@ fn settled(p: u64, d: u64, c: u64) -> u64
     }
 }
 
-// The same as `nearest_root` for any p: quick where the root is one of the three numbers after p.
-fn rounded(p: u64, c: u64) -> u64
-    requires { ⌜ c < 2 ^ 54 ⌝ }
-    ensures { λ r. ⌜ r ≡ nearestRoot (c * 2 ^ 52) ⌝ }
+// Whether g has the pattern of `low` and the whole number nearest to the root of c * 2^52. The
+// processor foresees that it has, so that what needs g does not wait for the square.
+fn is_rounded(g: f64, low: u64, c: u64) -> bool
+    requires { ⌜ c < 2 ^ 54 ⌝ ∗ ⌜ low + 2 ^ 53 < 2 ^ 64 ⌝ }
+    ensures { λ r. ⌜ (r ≡ true → g ≡ ofBits binary64 (low + nearestRoot (c * 2 ^ 52))) ⌝ }
 {
-    if p < 0x20_0000_0000_0000 {
-        let s = square(p);
-        let hi: u64 = c / 0x1000;
-        let lo: u64 = c % 0x1000 * 0x10_0000_0000_0000;
-        let d: u64 = std::num::wrapping_sub_u64(lo, s.lo);
-        let borrow: u64 = if lo < s.lo { 1 } else { 0 };
-        if s.hi + borrow == hi {
-            settled(p, d, c)
+    if g > 0.0 {
+        let p: u64 = std::num::wrapping_sub_u64(f64::to_bits(g), low + 1);
+        let d = excess(p, c);
+        if p < d {
+            if d <= 3 * p + 2 { true } else { false }
         } else {
-            nearest_root(c)
+            false
         }
     } else {
-        nearest_root(c)
+        false
     }
 }
 
-// About two less than the root of c * 2^52, by Newton's steps for 1 / root on a float from 1 to 4
-// with the digits of c. Nothing is said of it: it only decides how soon `rounded` is done.
+// About the root of the number of this pattern, nearly always the rounded root itself: two of
+// Newton's steps for 1 / root, then one for the root by x - s * s, which the leading digits t of an
+// earlier guess give without rounding. Nothing is said of it: `is_rounded` and `rounded` test it.
+fn approximate(bits: u64) -> f64
+    requires { ⌜ bits < 0x7ff0_0000_0000_0000 ⌝ }
+{
+    let x: f64 = f64::from_bits(bits);
+    let y0: f64 = f64::from_bits(0x5fe6_ed21_02dc_bfda - bits / 2);
+    let h: f64 = 0.5 * x;
+    let y1: f64 = 1.50087895511633457 * y0 - h * y0 * (y0 * y0);
+    let wide: f64 = 134217729.0 * (x * y1);
+    let t: f64 = wide - (wide - x * y1);
+    let y: f64 = 1.50000057967625766 * y1 - h * y1 * (y1 * y1);
+    let s: f64 = x * y;
+    let e: f64 = (x - t * t) - (s - t) * (s + t);
+    s + e * (0.875 * y - 0.375 * y * y * s)
+}
+
+// About two less than the root of c * 2^52, by the root of a float from 1 to 4 with the digits of c.
 fn guess(c: u64) -> u64
     requires { ⌜ c < 2 ^ 54 ⌝ }
 {
@@ -103,14 +137,7 @@ fn guess(c: u64) -> u64
     } else {
         c / 2 + 0x3ff0_0000_0000_0000
     };
-    let x: f64 = f64::from_bits(bits);
-    let y0: f64 = f64::from_bits(0x5fe6_ed21_02dc_bfda - bits / 2);
-    let h: f64 = 0.5 * x;
-    let y1: f64 = 1.50087895511633457 * y0 - h * y0 * (y0 * y0);
-    let y: f64 = 1.50000057967625766 * y1 - h * y1 * (y1 * y1);
-    let s: f64 = x * y;
-    let e: f64 = x - s * s;
-    let g: f64 = s + e * (0.5 * y + 0.375 * y * y * y * e);
+    let g = approximate(bits);
     if g > 0.0 {
         std::num::wrapping_sub_u64(f64::to_bits(g), 0x3fe0_0000_0000_0002)
     } else {
@@ -171,6 +198,12 @@ pub fn root(x: f64) -> f64
         if bits < 0x7ff0_0000_0000_0000 {
             let s = paired(bits);
             let low: u64 = (s.g / 2 - 26) << 52;
+            if bits >= 0x0800_0000_0000_0000 {
+                let g = approximate(bits);
+                if is_rounded(g, low, s.m) {
+                    return g;
+                }
+            }
             f64::from_bits(low + rounded(guess(s.m), s.m))
         } else {
             x

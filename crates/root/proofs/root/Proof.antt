@@ -13,7 +13,9 @@ use Rattle.root.proofs.root.Statement.{statement}
 use Rattle.root.proofs.root.Tie as tie
 use Rattle.root.proofs.root.Reads as reads
 use Rattle.root.proofs.root.Lts as lts
+use Rattle.root.proofs.approximate.Reads as approximate-reads
 use Rattle.root.proofs.guess.Reads as guess-reads
+use Rattle.root.proofs.is_rounded.Reads as is-rounded-reads
 use Rattle.root.proofs.paired.Reads as paired-reads
 use Rattle.root.proofs.rounded.Reads as rounded-reads
 
@@ -28,8 +30,26 @@ paired-requires : tie.Need-paired-requires
 unfolding ofBits
 paired-requires c κs = (above-zero-bits (c .before .before .args .x) (held (c .before .before)) (c .before .if1 .taken), c .if2 .taken)
 
+-- the pattern that has the rounded root's digits q
+pattern : (c : tie.After-paired) (q : ℕ) → q ≡ nearestRoot (c .paired .result .m * 2 ^ 52)
+    → (q < 2 ^ 53) × T (not (nanBits binary64 ((c .paired .result .g / 2 - 26) * 2 ^ 52 % 2 ^ 64 + q))) × (ofBits binary64 ((c .paired .result .g / 2 - 26) * 2 ^ 52 % 2 ^ 64 + q) ≡ rootOf (c .before .before .before .args .x))
+unfolding ofBits
+pattern c q e =
+    let s = c .before .before .before in
+    made (s .args .x) (c .paired .result .m) (c .paired .result .g) q (held s) (c .before .before .if1 .taken) (c .before .if2 .taken) (c .paired .ensures) e
+
 sub-low : tie.Need-sub-low
 sub-low c = search needs
+
+approximate-requires : tie.Need-approximate-requires
+approximate-requires c κs = search needs
+
+is-rounded-requires : tie.Need-is-rounded-requires
+is-rounded-requires c κs = search needs
+
+returns : tie.Need-returns
+unfolding ofBits
+returns c = let p = c .before .before .before .before .before in c .before .is-rounded .ensures (c .if4 .taken) ∙ pattern p _ refl .2
 
 guess-requires : tie.Need-guess-requires
 guess-requires c κs = search needs
@@ -37,12 +57,8 @@ guess-requires c κs = search needs
 rounded-requires : tie.Need-rounded-requires
 rounded-requires c κs = search needs
 
-result : (c : tie.After-rounded) → (c .rounded .result < 2 ^ 53) × T (not (nanBits binary64 ((c .before .before .before .paired .result .g / 2 - 26) * 2 ^ 52 % 2 ^ 64 + c .rounded .result))) × (ofBits binary64 ((c .before .before .before .paired .result .g / 2 - 26) * 2 ^ 52 % 2 ^ 64 + c .rounded .result) ≡ rootOf (c .before .before .before .before .before .before .args .x))
-unfolding ofBits
-result c =
-    let s = c .before .before .before .before .before .before in
-    let p = c .before .before .before .paired in
-    made (s .args .x) (p .result .m) (p .result .g) (c .rounded .result) (held s) (c .before .before .before .before .before .if1 .taken) (c .before .before .before .before .if2 .taken) (p .ensures) (c .rounded .ensures)
+result : (c : tie.After-rounded) → (c .rounded .result < 2 ^ 53) × T (not (nanBits binary64 ((c .before .before .before .before .paired .result .g / 2 - 26) * 2 ^ 52 % 2 ^ 64 + c .rounded .result))) × (ofBits binary64 ((c .before .before .before .before .paired .result .g / 2 - 26) * 2 ^ 52 % 2 ^ 64 + c .rounded .result) ≡ rootOf (c .before .before .before .before .before .before .before .args .x))
+result c = pattern (c .before .before .before .before) (c .rounded .result) (c .rounded .ensures)
 
 add-result : tie.Need-add-result
 add-result c = let r = result c .0 in omega arith
@@ -50,20 +66,20 @@ add-result c = let r = result c .0 in omega arith
 float-from-bits-result : tie.Need-float-from-bits-result
 float-from-bits-result c = result c .1
 
-returns : tie.Need-returns
-returns c = result c .2
-
 returns-2 : tie.Need-returns-2
-unfolding ofBits
-returns-2 c = above-top-root (c .before .before .args .x) (held (c .before .before)) (c .before .if1 .taken) (c .if2 .left)
+returns-2 c = result c .2
 
 returns-3 : tie.Need-returns-3
 unfolding ofBits
-returns-3 c = zero-root (c .before .before .args .x) (c .if3 .taken)
+returns-3 c = above-top-root (c .before .before .args .x) (held (c .before .before)) (c .before .if1 .taken) (c .if2 .left)
 
 returns-4 : tie.Need-returns-4
+unfolding ofBits
+returns-4 c = zero-root (c .before .before .args .x) (c .if5 .taken)
+
+returns-5 : tie.Need-returns-5
 unfolding ofBits div
-returns-4 c = no-root (c .before .before .args .x) (c .before .if1 .left) (c .if3 .left)
+returns-5 c = no-root (c .before .before .args .x) (c .before .if1 .left) (c .if5 .left)
 
 pub root-spec : {M : Type 1} → statement M
 root-spec =
@@ -72,11 +88,14 @@ root-spec =
     float-to-bits-bits
     paired-requires
     sub-low
+    approximate-requires
+    is-rounded-requires
+    returns
     guess-requires
     rounded-requires
     add-result
     float-from-bits-result
-    returns
     returns-2
     returns-3
-    returns-4)
+    returns-4
+    returns-5)
