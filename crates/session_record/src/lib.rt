@@ -92,7 +92,8 @@ pub fn open_refusal(instrument: Instrument, cells: usize) -> u64
     RECORD
 }
 
-fn record_refusal(instrument: Instrument, session: Session, cells: usize) -> u64
+// 7 and 8, with which every call on a session begins, and which are all that energies tests.
+pub fn record_refusal(instrument: Instrument, session: Session, cells: usize) -> u64
     ensures { λ r. ⌜ r ≡ recordRefusal instrument session cells ⌝ }
 {
     if instrument::is_valid(instrument) {
