@@ -111,3 +111,16 @@ pub fn part(piano: &Piano) -> Vec<f64> {
     }
     cells
 }
+
+/// The lines get the cells that stand for them in a part of work memory.
+pub fn set_lines(piano: &mut Piano, part: &[f64]) {
+    let mut at = 0;
+    for s in piano.keys.iter_mut().flat_map(|k| &mut k.strings) {
+        for line in [&mut s.a_r, &mut s.a_l, &mut s.b_r, &mut s.b_l, &mut s.c_r, &mut s.c_l] {
+            let length = line.buf.len();
+            line.buf.copy_from_slice(&part[at..at + length]);
+            at += length;
+        }
+        at += 2 * s.dispersion.len() + 5;
+    }
+}

@@ -1,6 +1,7 @@
 //! Compares the proved renderer with the Rust: random instruments and scores, every sample and force, and after each
-//! block the whole state, bit for bit, zeros and NaNs alike. The proved side is cut into blocks at random places; the
-//! Rust renders from silence in one run. With a file's name it also writes a sample of the Rust's renders there.
+//! block the whole state and the keys' energies, bit for bit, zeros and NaNs alike; energies of random cells too. The
+//! proved side is cut into blocks at random places; the Rust renders from silence in one run. With a file's name it also
+//! writes a sample of the Rust's renders there.
 
 #[allow(dead_code)]
 mod common;
@@ -127,6 +128,35 @@ struct Counts {
     forces: u64,
     contacts: u64,
     cells: u64,
+    energies: u64,
+    loud: u64,
+    infinite_energies: u64,
+}
+
+/// The energies of a part's cells against those of the Rust whose lines hold them.
+fn energies_differ(counts: &mut Counts, rust: &Piano, file: &[u8], part: &[f64]) -> Option<String> {
+    let expected = rust.key_energies();
+    let Some(found) = rendering::energies(file, part) else {
+        return Some("energies past the last key".to_string());
+    };
+    counts.energies += found.len() as u64;
+    counts.loud += found.iter().filter(|(_, energy)| *energy != 0.0 && energy.is_finite()).count() as u64;
+    counts.infinite_energies += found.iter().filter(|(_, energy)| !energy.is_finite()).count() as u64;
+    let same =
+        expected.len() == found.len() && expected.iter().zip(&found).all(|((k, x), (l, y))| k == l && alike(*x, *y));
+    (!same).then(|| format!("energies: the Rust has {expected:?}, the proved ones are {found:?}"))
+}
+
+/// Cells of one kind: any bit pattern, edges, ordinary numbers, or numbers whose sums round.
+fn random_cells(random: &mut Random, count: usize) -> Vec<f64> {
+    let kind = random.below(4);
+    let cell = |random: &mut Random| match kind {
+        0 => random.any(),
+        1 => random.edge(),
+        2 => random.between(-1.0, 1.0),
+        _ => random.magnitude(-12.0, 12.0),
+    };
+    (0..count).map(|_| cell(random)).collect()
 }
 
 /// The whole state, and where it differs.
@@ -187,6 +217,7 @@ fn differs(
                     first_difference("trace", &vec![UNTOUCHED; length + 1 - pushed.len()], &trace[pushed.len()..])
                 })
                 .or_else(|| state_differs(&rust, &small, &part))
+                .or_else(|| energies_differ(counts, &rust, &file, &part))
         } else {
             Some(format!("{} forces, and the Rust has {}", small.forces, pushed.len()))
         };
@@ -243,7 +274,12 @@ fn main() {
             let keys: Vec<u8> = instrument.keys.iter().map(|key| key.key).collect();
             let events = score(&mut random, &keys, samples);
             let blocks = blocks(&mut random, samples);
-            if let Some(difference) = differs(&mut counts, &instrument, &events, &blocks) {
+            let cells = random_cells(&mut random, instrument.cells());
+            let mut piano = instrument.piano();
+            inside::set_lines(&mut piano, &cells);
+            if let Some(difference) = differs(&mut counts, &instrument, &events, &blocks)
+                .or_else(|| energies_differ(&mut counts, &piano, &instrument.bytes(), &cells))
+            {
                 println!("render {turn} of kind `{}`, blocks {blocks:?}, events {events:?}", kind.name);
                 println!("{difference}");
                 exit(1);
@@ -261,5 +297,9 @@ fn main() {
     println!("blocks   {} with their states, {} cells", counts.blocks, counts.cells);
     println!("samples  {} compared, {} not zero, {} infinite or NaN", counts.samples, counts.sounding, counts.infinite);
     println!("forces   {} compared, {} above zero", counts.forces, counts.contacts);
+    println!(
+        "energies {} compared, {} finite and not zero, {} infinite or NaN",
+        counts.energies, counts.loud, counts.infinite_energies
+    );
     println!("no render differs");
 }
