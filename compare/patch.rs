@@ -14,7 +14,7 @@ struct Patch {
 
 const POWF: &str = ".powf(";
 
-const PATCHES: [Patch; 2] = [
+const PATCHES: [Patch; 4] = [
     Patch {
         reason: "`powf` is replaced, also in the Rust that we compare with",
         from: POWF,
@@ -25,6 +25,18 @@ const PATCHES: [Patch; 2] = [
         reason: "φ replaces `filter_delay`, which needs arctangents",
         from: "d.filter_delay(d.fs, d.f0)",
         to: "d.phi",
+        times: 1,
+    },
+    Patch {
+        reason: "the decimator takes 127 lent taps in place of its sines (so does the Rust we compare with)",
+        from: "pub fn decimate(x: &[f64], factor: usize)",
+        to: "pub fn decimate(x: &[f64], lent: &[f64], factor: usize)",
+        times: 1,
+    },
+    Patch {
+        reason: "the same: tap i is the lent one, and the sines go unused",
+        from: "sinc * w\n",
+        to: "{ let _ = (sinc, w); lent[i] }\n",
         times: 1,
     },
 ];

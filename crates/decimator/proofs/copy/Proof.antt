@@ -1,13 +1,13 @@
--- `decimate::copy` meets its contract. The invariant: the places before i hold the input's. Assumes nothing.
+-- `decimator::copy` meets its contract. The invariant: the places before i hold the input's. Assumes nothing.
 use mathlib.Core.Path.{_≡_, refl, _∙_, ap}
 use Prim.Native.Nat.{_-_, _≤_}
 use native.Mathlib.Omega.{arith}
 use lib.ListN.{length, getD}
 use lib.Ieee.{nan}
-use Rattle.decimate.proofs.Cases.{Stored, stored-start, stored-turn, stored-end, whole-list}
+use Rattle.decimator.proofs.Cases.{Stored, stored-start, stored-turn, stored-end, whole-list}
 use borrow.Author.Needs.{needs}
-use Rattle.decimate.proofs.copy.Statement.{statement}
-use Rattle.decimate.proofs.copy.Tie as tie
+use Rattle.decimator.proofs.copy.Statement.{statement}
+use Rattle.decimator.proofs.copy.Tie as tie
 
 abbrev Inv-loop : tie.InvT-loop
 Inv-loop x out₀ i₀ i-end out i = (i-end ≡ length x) × (length out₀ ≡ length x) × Stored (λ j. getD x j nan) out₀ out i

@@ -3,8 +3,8 @@ ghost use mathlib.Core.Path.{_≡_};
 ghost use Prim.Native.Nat.{_*_, _<_};
 ghost use lib.ListN.{length};
 ghost use Rattle.counting.specs.Below.{tabulate};
-ghost use Rattle.decimate.specs.Decimate.{refusalOf, weighed, filteredAt, outputLength, DecimateMeets};
-ghost use Rattle.decimate.specs.Steps.{Thins};
+ghost use Rattle.decimator.specs.Decimate.{refusalOf, weighed, filteredAt, outputLength, DecimateMeets};
+ghost use Rattle.decimator.specs.Steps.{Thins};
 
 const MOST: usize = 0x10_0000;
 

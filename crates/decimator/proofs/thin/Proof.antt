@@ -1,13 +1,13 @@
--- `decimate::thin` meets its contract. The invariant: the places before i hold the filtered samples. Assumes nothing.
+-- `decimator::thin` meets its contract. The invariant: the places before i hold the filtered samples. Assumes nothing.
 use mathlib.Core.Path.{_≡_, refl, _∙_, ap}
 use Prim.Native.Nat.{_-_, _*_, _≤_, _<_}
 use native.Mathlib.Omega.{arith}
 use lib.ListN.{length}
 use borrow.Author.Needs.{needs}
-use Rattle.decimate.specs.Decimate.{filteredAt}
-use Rattle.decimate.proofs.Cases.{start-below, Stored, stored-start, stored-turn, stored-end}
-use Rattle.decimate.proofs.thin.Statement.{statement}
-use Rattle.decimate.proofs.thin.Tie as tie
+use Rattle.decimator.specs.Decimate.{filteredAt}
+use Rattle.decimator.proofs.Cases.{start-below, Stored, stored-start, stored-turn, stored-end}
+use Rattle.decimator.proofs.thin.Statement.{statement}
+use Rattle.decimator.proofs.thin.Tie as tie
 
 abbrev Inv-loop : tie.InvT-loop
 Inv-loop x taps factor out₀ i₀ i-end out i = (i-end ≡ length out₀) × Stored (λ j. filteredAt x taps (j * factor)) out₀ out i

@@ -1,10 +1,10 @@
--- `decimate::decimate` meets its contract: where the number is 0, the two loops' premises hold, and each gives the definition's list. Assumes nothing.
+-- `decimator::decimate` meets its contract: where the number is 0, the two loops' premises hold, and each gives the definition's list. Assumes nothing.
 use mathlib.Core.Path.{_≡_, refl, sym, ap, _∙_}
 use lib.ListN.{length}
-use Rattle.decimate.proofs.Cases.{none-refused, same-room, copied, thinned}
+use Rattle.decimator.proofs.Cases.{none-refused, same-room, copied, thinned}
 use borrow.Author.Needs.{needs}
-use Rattle.decimate.proofs.decimate.Statement.{statement}
-use Rattle.decimate.proofs.decimate.Tie as tie
+use Rattle.decimator.proofs.decimate.Statement.{statement}
+use Rattle.decimator.proofs.decimate.Tie as tie
 
 refusal-requires : tie.Need-refusal-requires
 refusal-requires c κs = search needs

@@ -4,7 +4,7 @@ use mathlib.Core.List.{List}
 use Prim.Native.Nat.{ℕ, _≤_}
 use lib.ListN.{length}
 use lib.Ieee.{Float}
-use Rattle.decimate.specs.Decimate.{outputLength}
+use Rattle.decimator.specs.Decimate.{outputLength}
 
 pub record Thins (x taps : List Float) (factor : ℕ) (out : List Float) : Type 0 where
   pub most : length x ≤ 1048576

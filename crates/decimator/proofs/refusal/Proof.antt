@@ -1,9 +1,9 @@
--- `decimate::refusal` meets its contract: each way out is a law of proofs/Cases.antt. Assumes nothing.
-use Rattle.decimate.proofs.Cases.{factor-high, input-long, taps-wrong, room-wrong, none-wrong}
+-- `decimator::refusal` meets its contract: each way out is a law of proofs/Cases.antt. Assumes nothing.
+use Rattle.decimator.proofs.Cases.{factor-high, input-long, taps-wrong, room-wrong, none-wrong}
 use mathlib.Core.Path.{sym, _∙_}
 use borrow.Author.Needs.{needs}
-use Rattle.decimate.proofs.refusal.Statement.{statement}
-use Rattle.decimate.proofs.refusal.Tie as tie
+use Rattle.decimator.proofs.refusal.Statement.{statement}
+use Rattle.decimator.proofs.refusal.Tie as tie
 
 returns : tie.Need-returns
 returns c = let a = c .before .args in factor-high (a .n) (a .taps) (a .factor) (a .room) (c .if1 .taken)

@@ -1,8 +1,8 @@
--- `decimate::weigh` meets its contract: each way out is a law of proofs/Cases.antt. Assumes nothing.
-use Rattle.decimate.proofs.Cases.{before-first, meets, past-last}
+-- `decimator::weigh` meets its contract: each way out is a law of proofs/Cases.antt. Assumes nothing.
+use Rattle.decimator.proofs.Cases.{before-first, meets, past-last}
 use borrow.Author.Needs.{needs}
-use Rattle.decimate.proofs.weigh.Statement.{statement}
-use Rattle.decimate.proofs.weigh.Tie as tie
+use Rattle.decimator.proofs.weigh.Statement.{statement}
+use Rattle.decimator.proofs.weigh.Tie as tie
 
 add-j : tie.Need-add-j
 add-j c = search needs

@@ -14,8 +14,8 @@ use lib.Ieee.{Float, nan, binary64, add, mul}
 use borrow.Author.Tests.{le-leb, lt-leb, lt-ltb, le-ltb, eq-eqb, ne-eqb, ltb-false, eqb-true}
 use Rattle.counting.specs.Below.{tabulate}
 use Rattle.counting.specs.Laws.{tabulate-more}
-use Rattle.decimate.specs.Decimate.{outputLength, refusalOf, weighed, summed, filteredAt, decimated, DecimateMeets}
-use Rattle.decimate.specs.Steps.{Thins}
+use Rattle.decimator.specs.Decimate.{outputLength, refusalOf, weighed, summed, filteredAt, decimated, DecimateMeets}
+use Rattle.decimator.specs.Steps.{Thins}
 
 -- ---- the output's length
 

@@ -1,12 +1,12 @@
--- `decimate::filtered` meets its contract. The invariant: the sum is that of the taps before k. Assumes nothing.
+-- `decimator::filtered` meets its contract. The invariant: the sum is that of the taps before k. Assumes nothing.
 use mathlib.Core.Path.{_≡_, refl, _∙_, ap}
 use Prim.Native.Nat.{_-_, _≤_}
 use native.Mathlib.Omega.{arith}
-use Rattle.decimate.specs.Decimate.{summed}
-use Rattle.decimate.proofs.Cases.{summed-more}
+use Rattle.decimator.specs.Decimate.{summed}
+use Rattle.decimator.proofs.Cases.{summed-more}
 use borrow.Author.Needs.{needs}
-use Rattle.decimate.proofs.filtered.Statement.{statement}
-use Rattle.decimate.proofs.filtered.Tie as tie
+use Rattle.decimator.proofs.filtered.Statement.{statement}
+use Rattle.decimator.proofs.filtered.Tie as tie
 
 abbrev Inv-loop : tie.InvT-loop
 Inv-loop x taps at sum₀ k₀ sum k = (k ≤ 127) × (sum ≡ summed x taps at k)

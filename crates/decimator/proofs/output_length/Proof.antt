@@ -1,9 +1,9 @@
--- `decimate::output_length` meets its contract. A quotient by 2 or more leaves room for one. Assumes nothing.
+-- `decimator::output_length` meets its contract. A quotient by 2 or more leaves room for one. Assumes nothing.
 use native.Mathlib.Omega.{arith}
-use Rattle.decimate.proofs.Cases.{length-same, length-even, length-odd, quotient-fits}
+use Rattle.decimator.proofs.Cases.{length-same, length-even, length-odd, quotient-fits}
 use borrow.Author.Needs.{needs}
-use Rattle.decimate.proofs.output_length.Statement.{statement}
-use Rattle.decimate.proofs.output_length.Tie as tie
+use Rattle.decimator.proofs.output_length.Statement.{statement}
+use Rattle.decimator.proofs.output_length.Tie as tie
 
 rem-if2 : tie.Need-rem-if2
 rem-if2 c = search needs
