@@ -4,11 +4,12 @@ use float::positive_part;
 use hammer::Hammer;
 use hammer::contact_force;
 use power::power;
+use string::Indices;
 use string::Reads;
 use string::StringDesign;
 ghost use mathlib.Core.Path.{_≡_};
 ghost use lib.ListN.{length};
-ghost use Rattle.string.specs.String.{Strung, readsOf};
+ghost use Rattle.string.specs.String.{Strung, IndicesAt, readsOf};
 ghost use Rattle.points.specs.Points.{remembered, touched, contactOf, contactAt, dampedBy, turned, summed};
 
 // What the rules compute from the instrument's numbers before the first sample; two_z is 2 z.
@@ -102,22 +103,24 @@ pub fn strike_string(
     h: HammerState,
     d: StringDesign,
     damper_r: f64,
+    x: Indices,
     t: u64,
 ) -> f64
     requires { ⌜ Strung d (now part) ⌝ }
+    requires { ⌜ IndicesAt d t x ⌝ }
     ensures { λ f. ⌜ (f ≡ contactAt c h d (readsOf d t (now (part .entry))) (now (part .entry)) .force)
         × (now (part .exit) ≡ turned c h «damper_r» d t (now (part .entry))) ⌝ }
 {
     let y = d.na + d.na + d.nb + d.nb + d.nc + d.nc + (2 * d.ap_count + 3);
     let m = y + 1;
-    let r = string::read_string(part, d, t);
+    let r = string::read_string(part, d, x, t);
     let y_s = part[y];
     let touch = feel(c, h, d.key, y_s, part[m], r);
     let inject_h = touch.force / c.two_z;
     let inject_d = inject(c, damper_r, r);
     part[m] = touch.memory;
     part[y] = y_s + c.dt * (r.a + r.b + inject_h);
-    string::write_string(part, d, t, r, inject_h, inject_d);
+    string::write_string(part, d, x, t, r, inject_h, inject_d);
     touch.force
 }
 

@@ -77,7 +77,9 @@ fn play_on(
     let mut motion = piano.motion;
     let mut done = run.done;
     let mut pushed = run.pushed;
+    let mut indices = strings::first_indices(lengths, coefficients, setup.strings, t + done);
     while done < stop {
+        let at = t + done;
         let s = sample::sample(
             part,
             scratch,
@@ -86,10 +88,12 @@ fn play_on(
             table,
             lengths,
             coefficients,
+            &indices,
             setup,
             motion,
-            t + done,
+            at,
         );
+        strings::next_indices(&mut indices, lengths, coefficients, setup.strings, at);
         put(out, done as usize, s.out);
         pushed = push(trace, pushed, s.pushed, s.force);
         motion = s.motion;

@@ -7,6 +7,7 @@ ghost use mathlib.Core.Path.{_≡_};
 ghost use mathlib.Core.Bool.{false};
 ghost use Prim.Native.Nat.{_+_, _<_, _^_};
 ghost use lib.ListN.{getD};
+ghost use Rattle.strings.specs.Strings.{Indexed};
 ghost use Rattle.sample.specs.Sample.{Step, Ready, Bridged, modelAt, sampled, hammerAfter, moved, pushedBy, forcesOf};
 
 // The hammer, if one flies, and what is counted of its contacts.
@@ -38,10 +39,12 @@ fn bridge(
     table: &[f64; 64],
     lengths: &[usize; 160],
     coefficients: &[f64; 128],
+    indices: &[usize; 96],
     setup: Setup,
     t: u64,
 ) -> f64
     requires { ⌜ Ready setup (now lengths) (now coefficients) (now part) (now «v_in») ⌝ }
+    requires { ⌜ Indexed (now lengths) (now coefficients) (now indices) (setup .strings) t ⌝ }
     ensures { λ r. ⌜ Bridged (modelAt setup (now (table .entry)) (now (lengths .entry)) (now (coefficients .entry))) t (now («v_in» .entry)) (now (part .entry)) (now (part .exit)) r ⌝ }
 {
     let c = setup.constants;
@@ -55,6 +58,7 @@ fn bridge(
         &v_b,
         lengths,
         coefficients,
+        indices,
         c.z,
         setup.strings,
         t,
@@ -132,7 +136,7 @@ fn flies(h: HammerState) -> bool
     }
 }
 
-// Sample t. Scratch takes each string's v_in; `down` says which keys' dampers are to be down.
+// Sample t, of the lines' indices at t. Scratch takes each string's v_in; `down` says which keys' dampers are to be down.
 pub fn sample(
     part: &mut [f64],
     scratch: &mut [f64],
@@ -141,11 +145,13 @@ pub fn sample(
     table: &[f64; 64],
     lengths: &[usize; 160],
     coefficients: &[f64; 128],
+    indices: &[usize; 96],
     setup: Setup,
     motion: Motion,
     t: u64,
 ) -> Sampled
     requires { ⌜ Ready setup (now lengths) (now coefficients) (now part) (now scratch) ⌝ }
+    requires { ⌜ Indexed (now lengths) (now coefficients) (now indices) (setup .strings) t ⌝ }
     requires { ⌜ motion .«contact_samples» + 1 < 2 ^ 64 ⌝ }
     ensures { λ r. ⌜ record { «damper_r» = now («damper_r» .exit); motion = r .motion; cells = now (part .exit); out = r .out; force = forcesOf (r .pushed) (r .force) }
         ≡ sampled (modelAt setup (now (table .entry)) (now (lengths .entry)) (now (coefficients .entry))) (λ k. getD (now (down .entry)) k false) t (now («damper_r» .entry)) motion (now (part .entry)) ⌝ }
@@ -153,7 +159,15 @@ pub fn sample(
     let c = setup.constants;
     let h = motion.hammer;
     keys::move_dampers(table, down, damper_r, setup.keys);
-    strings::filter_strings(part, scratch, lengths, coefficients, setup.strings, t);
+    strings::filter_strings(
+        part,
+        scratch,
+        lengths,
+        coefficients,
+        indices,
+        setup.strings,
+        t,
+    );
     let f = strings::strike_strings(
         part,
         c,
@@ -161,11 +175,21 @@ pub fn sample(
         damper_r,
         lengths,
         coefficients,
+        indices,
         setup.strings,
         t,
     );
     let after = move_hammer(c, motion, f);
-    let out = bridge(part, scratch, table, lengths, coefficients, setup, t);
+    let out = bridge(
+        part,
+        scratch,
+        table,
+        lengths,
+        coefficients,
+        indices,
+        setup,
+        t,
+    );
     let pushed = flies(h);
     Sampled {
         motion: after,

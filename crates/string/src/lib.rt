@@ -4,8 +4,8 @@ ghost use mathlib.Core.Path.{_≡_};
 ghost use Prim.Native.Nat.{_+_, _%_, _≤_, _<_, _^_};
 ghost use lib.ListN.{length};
 ghost use Rattle.cells.specs.Line.{lineRead, lineWrite};
-ghost use Rattle.string.specs.String.{sizeOf, Strung, readAt, writeAt, readsOf, vIn, filtered, pointWrites, nutWrite, bridgeWrite};
-ghost use Rattle.string.specs.Table.{designAt};
+ghost use Rattle.string.specs.String.{sizeOf, Sound, Strung, IndicesAt, readAt, writeAt, readsOf, vIn, filtered, pointWrites, nutWrite, bridgeWrite};
+ghost use Rattle.string.specs.Table.{designAt, indicesIn, putIndices};
 
 // The three cuts, the number of dispersion stages, the index of the string's key, and the filter's coefficients.
 pub struct StringDesign {
@@ -15,6 +15,13 @@ pub struct StringDesign {
     pub ap_count: usize,
     pub key: usize,
     pub filter: LoopFilter,
+}
+
+// The Rust's `idx` of a string's lines: one for the two lines of each cut, since every line is written once a sample.
+pub struct Indices {
+    pub a: usize,
+    pub b: usize,
+    pub c: usize,
 }
 
 // What a sample reads of a string's lines besides the loop filter's input.
@@ -57,66 +64,122 @@ pub fn size(d: StringDesign) -> usize
     d.na + d.na + d.nb + d.nb + d.nc + d.nc + (2 * d.ap_count + 3) + 2
 }
 
-// The cell of a line of len cells that sample t reads and writes.
+// The cell of a line of len cells that sample t reads and writes, by division.
 fn ring(t: u64, len: usize) -> usize
     requires { ⌜ 0 < len ⌝ }
-    ensures { λ r. ⌜ (r ≡ t % len) × (r < len) ⌝ }
+    ensures { λ r. ⌜ r ≡ t % len ⌝ }
 {
     (t % (len as u64)) as usize
 }
 
-// `Delay::read` and `Delay::write`, on the line's own cells.
-fn read(line: &[f64], t: u64) -> f64
-    requires { ⌜ 0 < length (now line) ⌝ }
-    ensures { λ r. ⌜ r ≡ lineRead t (now (line .entry)) ⌝ }
+// The same of the sample after t, carried on from t's. Here and below t is for the contract alone: no code reads it.
+fn next_index(idx: usize, len: usize, t: u64) -> usize
+    requires { ⌜ (0 < len) × (idx ≡ t % len) ⌝ }
+    ensures { λ r. ⌜ r ≡ (t + 1) % len ⌝ }
 {
-    let i = ring(t, line.len());
-    line[i]
+    let next = idx + 1;
+    if next == len { 0 } else { next }
 }
 
-fn write(line: &mut [f64], t: u64, v: f64)
-    requires { ⌜ 0 < length (now line) ⌝ }
+// A string's indices at sample t.
+pub fn indices_of(d: StringDesign, t: u64) -> Indices
+    requires { ⌜ Sound d ⌝ }
+    ensures { λ r. ⌜ IndicesAt d t r ⌝ }
+{
+    Indices {
+        a: ring(t, d.na),
+        b: ring(t, d.nb),
+        c: ring(t, d.nc),
+    }
+}
+
+// A string's indices at the sample after t.
+pub fn next_indices(d: StringDesign, x: Indices, t: u64) -> Indices
+    requires { ⌜ Sound d ⌝ }
+    requires { ⌜ IndicesAt d t x ⌝ }
+    ensures { λ r. ⌜ IndicesAt d (t + 1) r ⌝ }
+{
+    Indices {
+        a: next_index(x.a, d.na, t),
+        b: next_index(x.b, d.nb, t),
+        c: next_index(x.c, d.nc, t),
+    }
+}
+
+// String i's indices in a table of three a string, and their store.
+pub fn indices_at(indices: &[usize; 96], i: usize) -> Indices
+    requires { ⌜ i < 32 ⌝ }
+    ensures { λ r. ⌜ r ≡ indicesIn (now (indices .entry)) i ⌝ }
+{
+    let j = i * 3;
+    Indices {
+        a: indices[j],
+        b: indices[j + 1],
+        c: indices[j + 2],
+    }
+}
+
+pub fn put_indices(indices: &mut [usize; 96], i: usize, x: Indices)
+    requires { ⌜ i < 32 ⌝ }
+    ensures { λ _. ⌜ now (indices .exit) ≡ putIndices i x (now (indices .entry)) ⌝ }
+{
+    let j = i * 3;
+    indices[j] = x.a;
+    indices[j + 1] = x.b;
+    indices[j + 2] = x.c;
+}
+
+// `Delay::read` and `Delay::write`, on the line's own cells.
+fn read(line: &[f64], idx: usize, t: u64) -> f64
+    requires { ⌜ (0 < length (now line)) × (idx ≡ t % length (now line)) ⌝ }
+    ensures { λ r. ⌜ r ≡ lineRead t (now (line .entry)) ⌝ }
+{
+    line[idx]
+}
+
+fn write(line: &mut [f64], idx: usize, t: u64, v: f64)
+    requires { ⌜ (0 < length (now line)) × (idx ≡ t % length (now line)) ⌝ }
     ensures { λ _. ⌜ now (line .exit) ≡ lineWrite t v (now (line .entry)) ⌝ }
 {
-    let i = ring(t, line.len());
-    line[i] = v;
+    line[idx] = v;
 }
 
 // The line of len cells from cell a of a string's part on.
-fn read_line(part: &[f64], a: usize, len: usize, t: u64) -> f64
-    requires { ⌜ (0 < len) × (a + len ≤ length (now part)) ⌝ }
+fn read_line(part: &[f64], a: usize, len: usize, idx: usize, t: u64) -> f64
+    requires { ⌜ (0 < len) × (a + len ≤ length (now part)) × (idx ≡ t % len) ⌝ }
     ensures { λ r. ⌜ r ≡ readAt a len t (now (part .entry)) ⌝ }
 {
     let e = a + len;
-    read(&part[a..e], t)
+    read(&part[a..e], idx, t)
 }
 
-fn write_line(part: &mut [f64], a: usize, len: usize, t: u64, v: f64)
-    requires { ⌜ (0 < len) × (a + len ≤ length (now part)) ⌝ }
+fn write_line(part: &mut [f64], a: usize, len: usize, idx: usize, t: u64, v: f64)
+    requires { ⌜ (0 < len) × (a + len ≤ length (now part)) × (idx ≡ t % len) ⌝ }
     ensures { λ _. ⌜ now (part .exit) ≡ writeAt a len t v (now (part .entry)) ⌝ }
 {
     let e = a + len;
-    write(&mut part[a..e], t, v);
+    write(&mut part[a..e], idx, t, v);
 }
 
 // Sample t's reads of one string.
-pub fn read_string(part: &[f64], d: StringDesign, t: u64) -> Reads
+pub fn read_string(part: &[f64], d: StringDesign, x: Indices, t: u64) -> Reads
     requires { ⌜ Strung d (now part) ⌝ }
+    requires { ⌜ IndicesAt d t x ⌝ }
     ensures { λ r. ⌜ r ≡ readsOf d t (now (part .entry)) ⌝ }
 {
     let b_r = d.na + d.na;
     let b_l = b_r + d.nb;
     let c_l = b_l + d.nb + d.nc;
-    let a = read_line(part, 0, d.na, t);
-    let b = read_line(part, b_l, d.nb, t);
-    let c = read_line(part, b_r, d.nb, t);
-    let x = read_line(part, c_l, d.nc, t);
-    let x_nut = read_line(part, d.na, d.na, t);
+    let a = read_line(part, 0, d.na, x.a, t);
+    let b = read_line(part, b_l, d.nb, x.b, t);
+    let c = read_line(part, b_r, d.nb, x.b, t);
+    let d_in = read_line(part, c_l, d.nc, x.c, t);
+    let x_nut = read_line(part, d.na, d.na, x.a, t);
     Reads {
         a,
         b,
         c,
-        d: x,
+        d: d_in,
         x_nut,
     }
 }
@@ -125,42 +188,46 @@ pub fn read_string(part: &[f64], d: StringDesign, t: u64) -> Reads
 pub fn write_string(
     part: &mut [f64],
     d: StringDesign,
+    x: Indices,
     t: u64,
     r: Reads,
     inject_h: f64,
     inject_d: f64,
 )
     requires { ⌜ Strung d (now part) ⌝ }
+    requires { ⌜ IndicesAt d t x ⌝ }
     ensures { λ _. ⌜ now (part .exit) ≡ nutWrite d t r (pointWrites d t r «inject_h» «inject_d» (now (part .entry))) ⌝ }
 {
     let b_r = d.na + d.na;
     let b_l = b_r + d.nb;
     let c_r = b_l + d.nb;
-    write_line(part, b_r, d.nb, t, r.a + inject_h);
-    write_line(part, d.na, d.na, t, r.b + inject_h);
-    write_line(part, c_r, d.nc, t, r.c + inject_d);
-    write_line(part, b_l, d.nb, t, r.d + inject_d);
-    write_line(part, 0, d.na, t, -r.x_nut);
+    write_line(part, b_r, d.nb, x.b, t, r.a + inject_h);
+    write_line(part, d.na, d.na, x.a, t, r.b + inject_h);
+    write_line(part, c_r, d.nc, x.c, t, r.c + inject_d);
+    write_line(part, b_l, d.nb, x.b, t, r.d + inject_d);
+    write_line(part, 0, d.na, x.a, t, -r.x_nut);
 }
 
 // The loop filter on what reaches the bridge.
-pub fn filter_string(part: &mut [f64], d: StringDesign, t: u64) -> f64
+pub fn filter_string(part: &mut [f64], d: StringDesign, x: Indices, t: u64) -> f64
     requires { ⌜ Strung d (now part) ⌝ }
+    requires { ⌜ IndicesAt d t x ⌝ }
     ensures { λ r. ⌜ (r ≡ vIn d t (now (part .entry))) × (now (part .exit) ≡ filtered d t (now (part .entry))) ⌝ }
 {
     let c_r = d.na + d.na + d.nb + d.nb;
-    let x = read_line(part, c_r, d.nc, t);
+    let v = read_line(part, c_r, d.nc, x.c, t);
     let f = c_r + d.nc + d.nc;
     let y = f + (2 * d.ap_count + 3);
     let filter = d.filter;
-    filter::loop_filter(&mut part[f..y], filter, x)
+    filter::loop_filter(&mut part[f..y], filter, v)
 }
 
 // What the bridge sends back.
-pub fn bridge_string(part: &mut [f64], d: StringDesign, t: u64, v: f64)
+pub fn bridge_string(part: &mut [f64], d: StringDesign, x: Indices, t: u64, v: f64)
     requires { ⌜ Strung d (now part) ⌝ }
+    requires { ⌜ IndicesAt d t x ⌝ }
     ensures { λ _. ⌜ now (part .exit) ≡ bridgeWrite d t v (now (part .entry)) ⌝ }
 {
     let c_l = d.na + d.na + d.nb + d.nb + d.nc;
-    write_line(part, c_l, d.nc, t, v);
+    write_line(part, c_l, d.nc, x.c, t, v);
 }

@@ -4,11 +4,50 @@ use points::ForceSum;
 use points::HammerState;
 ghost use mathlib.Core.Path.{_≡_};
 ghost use mathlib.Core.List.{_++_};
-ghost use Prim.Native.Nat.{_≤_};
+ghost use Prim.Native.Nat.{_+_, _≤_};
 ghost use lib.ListN.{length, drop};
 ghost use Rattle.string.specs.Table.{strings};
-ghost use Rattle.strings.specs.Strings.{AllFit, cellsOf, filteredAll, vIns, turnedAll, forceAll, noForce, bridgeAll, bridgeForce};
+ghost use Rattle.strings.specs.Strings.{AllFit, Indexed, cellsOf, filteredAll, vIns, turnedAll, forceAll, noForce, bridgeAll, bridgeForce};
 ghost use Rattle.float.specs.Float.{zero};
+
+// The indices of n strings' lines at sample t, three a string, each by a division: once for a stretch of samples.
+pub fn first_indices(
+    lengths: &[usize; 160],
+    coefficients: &[f64; 128],
+    n: usize,
+    t: u64,
+) -> [usize; 96]
+    requires { ⌜ AllFit (now lengths) (now coefficients) n ⌝ }
+    ensures { λ r. ⌜ Indexed (now (lengths .entry)) (now (coefficients .entry)) r n t ⌝ }
+{
+    let mut indices = [0usize; 96];
+    for i in 0..n {
+        let d = string::design_at(lengths, coefficients, i);
+        let x = string::indices_of(d, t);
+        string::put_indices(&mut indices, i, x);
+    }
+    indices
+}
+
+// Carries them on from sample t to the next.
+pub fn next_indices(
+    indices: &mut [usize; 96],
+    lengths: &[usize; 160],
+    coefficients: &[f64; 128],
+    n: usize,
+    t: u64,
+)
+    requires { ⌜ AllFit (now lengths) (now coefficients) n ⌝ }
+    requires { ⌜ Indexed (now lengths) (now coefficients) (now indices) n t ⌝ }
+    ensures { λ _. ⌜ Indexed (now (lengths .entry)) (now (coefficients .entry)) (now (indices .exit)) n (t + 1) ⌝ }
+{
+    for i in 0..n {
+        let d = string::design_at(lengths, coefficients, i);
+        let x = string::indices_at(indices, i);
+        let next = string::next_indices(d, x, t);
+        string::put_indices(indices, i, next);
+    }
+}
 
 // All loop filters; each string's v_in goes to its cell of v_in.
 pub fn filter_strings(
@@ -16,10 +55,12 @@ pub fn filter_strings(
     v_in: &mut [f64],
     lengths: &[usize; 160],
     coefficients: &[f64; 128],
+    indices: &[usize; 96],
     n: usize,
     t: u64,
 )
     requires { ⌜ AllFit (now lengths) (now coefficients) n ⌝ }
+    requires { ⌜ Indexed (now lengths) (now coefficients) (now indices) n t ⌝ }
     requires { ⌜ cellsOf (strings (now lengths) (now coefficients) n) ≤ length (now part) ⌝ }
     requires { ⌜ n ≤ length (now «v_in») ⌝ }
     ensures { λ _. ⌜ (now (part .exit) ≡ filteredAll (strings (now (lengths .entry)) (now (coefficients .entry)) n) t (now (part .entry)))
@@ -29,7 +70,8 @@ pub fn filter_strings(
     for i in 0..n {
         let d = string::design_at(lengths, coefficients, i);
         let e = at + string::size(d);
-        v_in[i] = string::filter_string(&mut part[at..e], d, t);
+        let x = string::indices_at(indices, i);
+        v_in[i] = string::filter_string(&mut part[at..e], d, x, t);
         at = e;
     }
 }
@@ -42,10 +84,12 @@ pub fn strike_strings(
     damper_r: &[f64; 16],
     lengths: &[usize; 160],
     coefficients: &[f64; 128],
+    indices: &[usize; 96],
     n: usize,
     t: u64,
 ) -> ForceSum
     requires { ⌜ AllFit (now lengths) (now coefficients) n ⌝ }
+    requires { ⌜ Indexed (now lengths) (now coefficients) (now indices) n t ⌝ }
     requires { ⌜ cellsOf (strings (now lengths) (now coefficients) n) ≤ length (now part) ⌝ }
     ensures { λ r. ⌜ (now (part .exit) ≡ turnedAll c h (now («damper_r» .entry)) (strings (now (lengths .entry)) (now (coefficients .entry)) n) t (now (part .entry)))
         × (r ≡ forceAll c h (strings (now (lengths .entry)) (now (coefficients .entry)) n) t (now (part .entry)) noForce) ⌝ }
@@ -58,8 +102,9 @@ pub fn strike_strings(
     for i in 0..n {
         let d = string::design_at(lengths, coefficients, i);
         let e = at + string::size(d);
+        let x = string::indices_at(indices, i);
         let k = d.key;
-        let f = points::strike_string(&mut part[at..e], c, h, d, damper_r[k], t);
+        let f = points::strike_string(&mut part[at..e], c, h, d, damper_r[k], x, t);
         sum = points::add_force(sum, f);
         at = e;
     }
@@ -73,11 +118,13 @@ pub fn bridge_strings(
     v_b: &[f64; 16],
     lengths: &[usize; 160],
     coefficients: &[f64; 128],
+    indices: &[usize; 96],
     z: f64,
     n: usize,
     t: u64,
 ) -> f64
     requires { ⌜ AllFit (now lengths) (now coefficients) n ⌝ }
+    requires { ⌜ Indexed (now lengths) (now coefficients) (now indices) n t ⌝ }
     requires { ⌜ cellsOf (strings (now lengths) (now coefficients) n) ≤ length (now part) ⌝ }
     requires { ⌜ n ≤ length (now «v_in») ⌝ }
     ensures { λ r. ⌜ (now (part .exit) ≡ bridgeAll (now («v_b» .entry)) (now («v_in» .entry)) (strings (now (lengths .entry)) (now (coefficients .entry)) n) t (now (part .entry)))
@@ -88,11 +135,12 @@ pub fn bridge_strings(
     for i in 0..n {
         let d = string::design_at(lengths, coefficients, i);
         let e = at + string::size(d);
+        let x = string::indices_at(indices, i);
         let k = d.key;
-        let x = v_in[i];
+        let v = v_in[i];
         let y = v_b[k];
-        string::bridge_string(&mut part[at..e], d, t, y - x);
-        f_bridge = f_bridge + z * (2.0 * x - y);
+        string::bridge_string(&mut part[at..e], d, x, t, y - v);
+        f_bridge = f_bridge + z * (2.0 * v - y);
         at = e;
     }
     f_bridge

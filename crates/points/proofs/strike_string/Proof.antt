@@ -58,19 +58,19 @@ inject-requires : tie.Need-inject-requires
 inject-requires c κs = search needs
 
 mul-part : tie.Need-mul-part
-mul-part c = let start = c .before .before .before .before .before .before .before .before .before .before .before .before .before .before .before in omega (arith, start .pre .all, start .good)
+mul-part c = let start = c .before .before .before .before .before .before .before .before .before .before .before .before .before .before .before in omega (arith, start .pre .0 .all, start .good)
 
 slice-write-part : tie.Need-slice-write-part
-slice-write-part c = let start = c .before .before .before .before .before .before .before .before .before .before .before .before .before .before .before in omega (arith, start .pre .all, start .good)
+slice-write-part c = let start = c .before .before .before .before .before .before .before .before .before .before .before .before .before .before .before in omega (arith, start .pre .0 .all, start .good)
 
 mul-part-2 : tie.Need-mul-part-2
-mul-part-2 c = let start = c .before .before .before .before .before .before .before .before .before .before .before .before .before .before .before .before .before in omega (arith, start .pre .all, start .good)
+mul-part-2 c = let start = c .before .before .before .before .before .before .before .before .before .before .before .before .before .before .before .before .before in omega (arith, start .pre .0 .all, start .good)
 
 slice-write-part-2 : tie.Need-slice-write-part-2
-slice-write-part-2 c = let start = c .before .before .before .before .before .before .before .before .before .before .before .before .before .before .before .before .before in simp length-set (omega (arith, start .pre .all, start .good))
+slice-write-part-2 c = let start = c .before .before .before .before .before .before .before .before .before .before .before .before .before .before .before .before .before in simp length-set (omega (arith, start .pre .0 .all, start .good))
 
 write-string-requires : tie.Need-write-string-requires
-write-string-requires c κs = let start = c .before .before .before .before .before .before .before .before .before .before .before .before .before .before .before .before .before .before .pre in record { sound = start .sound; all = simp length-set (start .all) }
+write-string-requires c κs = let start = c .before .before .before .before .before .before .before .before .before .before .before .before .before .before .before .before .before .before .pre in (record { sound = start .0 .sound; all = simp length-set (start .0 .all) }, start .1)
 
 same-length : tie.Need-same-length
 same-length c = c .before .before .write-string .kept .0 ∙ simp length-set

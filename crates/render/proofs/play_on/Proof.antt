@@ -1,4 +1,4 @@
--- `render::play_on` meets its contract. The loop's invariant: the run so far, its counts, and the lengths of part and scratch. Assumes nothing.
+-- `render::play_on` meets its contract. The loop's invariant: the run so far, its counts, the lengths of part and scratch, and the lines' indices. Assumes nothing.
 use mathlib.Core.Path.{_≡_, refl, ap, _∙_}
 use mathlib.Core.Bool.{Bool, false}
 use mathlib.Core.List.{List, [], _∷_}
@@ -8,6 +8,7 @@ use borrow.Author.Needs.{needs}
 use lib.ListN.{length, getD}
 use lib.Seq.{sets}
 use lib.Ieee.{Float}
+use Rattle.strings.specs.Strings.{Indexed}
 use Rattle.sample.specs.declared.Motion.{Motion}
 use Rattle.sample.specs.Sample.{Step, modelAt, forcesOf}
 use Rattle.score.specs.declared.Piano.{Piano}
@@ -25,18 +26,25 @@ abbrev downs : List Bool → ℕ → Bool
 downs down k = getD down k false
 
 abbrev Inv-loop : tie.InvT-loop
-Inv-loop part₀ scratch₀ out₀ trace₀ down table lengths coefficients setup t stop piano held hand-damped damper-r₀ motion₀ done₀ pushed₀ part scratch out trace damper-r motion done pushed =
+Inv-loop part₀ scratch₀ out₀ trace₀ down table lengths coefficients setup t stop piano held hand-damped damper-r₀ motion₀ done₀ pushed₀ indices₀ part scratch out trace damper-r motion done pushed indices =
     Went (stillNext (modelAt setup table lengths coefficients) (downs down)) (stillOut (modelAt setup table lengths coefficients) (downs down))
     (stillForce (modelAt setup table lengths coefficients) (downs down)) (t + done₀) (stateOf piano damper-r₀ motion₀ part₀) out₀ trace₀ done₀ pushed₀
     (stateOf piano damper-r motion part) out trace done pushed
     × (done ≤ stop) × (motion .«contact_samples» ≤ t + done) × (pushed ≤ done) × (length part ≡ length part₀) × (length scratch ≡ length scratch₀)
+    × Indexed lengths coefficients indices (setup .strings) (t + done)
 
 abbrev μ-loop : tie.MeasureT-loop
-μ-loop part₀ scratch₀ out₀ trace₀ down table lengths coefficients setup t stop piano held hand-damped damper-r₀ motion₀ done₀ pushed₀ part scratch out trace damper-r motion done pushed = stop - done
+μ-loop part₀ scratch₀ out₀ trace₀ down table lengths coefficients setup t stop piano held hand-damped damper-r₀ motion₀ done₀ pushed₀ indices₀ part scratch out trace damper-r motion done pushed indices = stop - done
+
+add-first-indices : tie.Need-add-first-indices Inv-loop μ-loop
+add-first-indices c = let due = c .before .before .before .before .before .before .before .before .before .pre .1 in omega (arith, due .below, due .end)
+
+first-indices-requires : tie.Need-first-indices-requires Inv-loop μ-loop
+first-indices-requires c κs = c .before .before .before .before .before .before .before .before .before .pre .0 .fit
 
 loop-holds : tie.Need-loop-holds Inv-loop μ-loop
 loop-holds c =
-    let start = c .before .before .before .before .before .before .before .before .before in
+    let start = c .before .before .before .before .before .before .before .before .before .before in
     let at = start .args in
     let due = start .pre .1 in (
       went-start (at .t + at .run .done) (stateOf (at .run .piano) (at .run .piano .«damper_r») (at .run .piano .motion) (at .part .now)) (at .out .now) (at .trace .now) (at .run .done) (at .run .pushed),
@@ -45,43 +53,47 @@ loop-holds c =
       due .pushes,
       refl,
       refl,
+      c .first-indices .ensures,
     )
 
-add-sample : tie.Need-add-sample Inv-loop μ-loop
-add-sample c = omega (arith, c .before .before .before .before .before .before .before .before .before .before .before .before .before .before .pre .1 .end, c .before .before .before .loop-test .taken)
+add-at : tie.Need-add-at Inv-loop μ-loop
+add-at c = omega (arith, c .before .before .before .before .before .before .before .before .before .before .before .before .pre .1 .end, c .loop-test .taken)
 
 sample-requires : tie.Need-sample-requires Inv-loop μ-loop
 sample-requires c κs =
-    let start = c .before .before .before .before .before .before .before .before .before .before .before .before .before .before in
-    let here = c .before .before .before .before .loop in
+    let start = c .before .before .before .before .before .before .before .before .before .before .before .before .before .before .before .before in
+    let here = c .before .before .before .before .before .loop in
     let ready = start .pre .0 in
     let due = start .pre .1 in
-    let taken = c .before .before .before .loop-test .taken in (
+    let taken = c .before .before .before .before .loop-test .taken in (
       record { fit = ready .fit; keys = ready .keys; cells = omega (arith, here .inv .4, ready .cells); scratch = omega (arith, here .inv .5, ready .scratch) },
-      omega (arith, here .inv .2, due .end, taken),
+      (here .inv .6, omega (arith, here .inv .2, due .end, taken)),
     )
+
+next-indices-requires : tie.Need-next-indices-requires Inv-loop μ-loop
+next-indices-requires c κs = (c .before .before .before .before .before .before .before .before .before .before .before .before .before .before .before .before .before .before .before .before .before .before .pre .0 .fit, c .before .before .before .before .before .before .before .before .before .before .before .loop .inv .6)
 
 put-requires : tie.Need-put-requires Inv-loop μ-loop
 put-requires c κs = search needs
 
 push-requires : tie.Need-push-requires Inv-loop μ-loop
 push-requires c κs =
-    let here = c .before .before .before .before .before .before .before .before .before .before .before .before .before .before .loop in
-    omega (arith, here .inv .3, c .before .before .before .before .before .before .before .before .before .before .before .before .before .loop-test .taken, c .before .before .before .before .before .before .before .before .before .before .before .before .before .before .before .before .before .before .before .before .before .before .before .before .pre .1 .end)
+    let here = c .before .before .before .before .before .before .before .before .before .before .before .before .before .before .before .before .before .loop in
+    omega (arith, here .inv .3, c .before .before .before .before .before .before .before .before .before .before .before .before .before .before .before .before .loop-test .taken, c .before .before .before .before .before .before .before .before .before .before .before .before .before .before .before .before .before .before .before .before .before .before .before .before .before .before .before .before .pre .1 .end)
 
 add-done : tie.Need-add-done Inv-loop μ-loop
-add-done c = omega (arith, c .before .before .before .before .before .before .before .before .before .before .before .before .before .before .before .before .before .before .before .before .before .before .before .before .before .before .before .before .pre .1 .end, c .before .before .before .before .before .before .before .before .before .before .before .before .before .before .before .before .before .loop-test .taken)
+add-done c = omega (arith, c .before .before .before .before .before .before .before .before .before .before .before .before .before .before .before .before .before .before .before .before .before .before .before .before .before .before .before .before .before .before .before .before .pre .1 .end, c .before .before .before .before .before .before .before .before .before .before .before .before .before .before .before .before .before .before .before .before .loop-test .taken)
 
 loop-less : tie.Need-loop-less Inv-loop μ-loop
 loop-less c = omega arith
 
 loop-again : tie.Need-loop-again Inv-loop μ-loop
 loop-again c =
-    let start = c .before .before .before .before .before .before .before .before .before .before .before .before .before .before .before .before .before .before .before .before .before .before .before .before .before .before .before .before in
+    let start = c .before .before .before .before .before .before .before .before .before .before .before .before .before .before .before .before .before .before .before .before .before .before .before .before .before .before .before .before .before .before .before .before in
     let at = start .args in
-    let here = c .before .before .before .before .before .before .before .before .before .before .before .before .before .before .before .before .before .before .loop in
-    let taken = c .before .before .before .before .before .before .before .before .before .before .before .before .before .before .before .before .before .loop-test .taken in
-    let call = c .before .before .before .before .before .before .before .before .before .before .before .before .before .sample in
+    let here = c .before .before .before .before .before .before .before .before .before .before .before .before .before .before .before .before .before .before .before .before .before .loop in
+    let taken = c .before .before .before .before .before .before .before .before .before .before .before .before .before .before .before .before .before .before .before .before .loop-test .taken in
+    let call = c .before .before .before .before .before .before .before .before .before .before .before .before .before .before .before .sample in
     let push = c .before .before .before .push in
     let m = modelAt (at .setup) (at .table .now) (at .lengths .now) (at .coefficients .now) in
     let D = downs (at .down .now) in
@@ -98,6 +110,7 @@ loop-again c =
     (push .ensures .1 ∙ ap (λ (l : List Float). sets (here .trace) (here .pushed) l) forced) pushed in
     let from = here .inv .0 .from in
     let place : at .t + here .done ≡ at .t + at .run .done + (here .done - at .run .done) = omega arith in
+    let next : at .t + here .done + 1 ≡ at .t + (here .done + 1) = omega arith in
     let count = ap (λ (x : State). x .piano .motion .«contact_samples») moved in (
       went-then t (here .inv .0) place one,
       omega (arith, taken),
@@ -105,6 +118,7 @@ loop-again c =
       omega (arith, pushed, stepped-force m D t S, here .inv .3),
       call .kept .0 ∙ here .inv .4,
       call .kept .1 .0 ∙ here .inv .5,
+      rw next at (c .before .before .before .before .before .before .before .before .before .next-indices .ensures),
     )
 
 same-length : tie.Need-same-length Inv-loop μ-loop
@@ -122,8 +136,8 @@ same-length-4 c = went-lengths (c .before .loop .inv .0) .1
 returns : tie.Need-returns Inv-loop μ-loop
 returns c =
     let here = c .before .loop in
-    let due = c .before .before .before .before .before .before .before .before .before .before .before .pre .1 in
-    let end : here .done ≡ c .before .before .before .before .before .before .before .before .before .before .before .args .stop = omega (arith, c .loop-test .left, here .inv .1) in
+    let due = c .before .before .before .before .before .before .before .before .before .before .before .before .pre .1 in
+    let end : here .done ≡ c .before .before .before .before .before .before .before .before .before .before .before .before .args .stop = omega (arith, c .loop-test .left, here .inv .1) in
     (here .inv .0, end, record { below = here .inv .1; end = due .end; contact = here .inv .2; pushes = here .inv .3 })
 
 pub play-on-spec : {M : Type 1} → statement M
@@ -132,9 +146,12 @@ play-on-spec =
     (tie.spec
     Inv-loop
     μ-loop
+    add-first-indices
+    first-indices-requires
     loop-holds
-    add-sample
+    add-at
     sample-requires
+    next-indices-requires
     put-requires
     push-requires
     add-done

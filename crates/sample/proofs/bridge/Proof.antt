@@ -15,7 +15,10 @@ bridge-speeds-requires : tie.Need-bridge-speeds-requires
 bridge-speeds-requires c κs = search needs
 
 bridge-strings-requires : tie.Need-bridge-strings-requires
-bridge-strings-requires c κs = search needs
+bridge-strings-requires c κs =
+    let start = c .before .before .before .before .before .before .before .before .before .before .before in
+    let ready = start .pre .0 in
+    (ready .fit, (start .pre .1, (ready .cells, ready .scratch)))
 
 same-length : tie.Need-same-length
 same-length c = search needs

@@ -13,25 +13,34 @@ move-dampers-requires : tie.Need-move-dampers-requires
 move-dampers-requires c κs = search needs
 
 filter-strings-requires : tie.Need-filter-strings-requires
-filter-strings-requires c κs = search needs
+filter-strings-requires c κs =
+    let start = c .before .before .before .before .before .before .before in
+    let ready = start .pre .0 in
+    (ready .fit, (start .pre .1 .0, (ready .cells, ready .scratch)))
 
 strike-strings-requires : tie.Need-strike-strings-requires
-strike-strings-requires c κs = search needs
+strike-strings-requires c κs =
+    let start = c .before .before .before .before .before .before .before .before .before .before .before .before .before .before in
+    let ready = start .pre .0 in
+    (ready .fit, (start .pre .1 .0, omega (arith, c .before .before .before .before .before .before .filter-strings .kept .0, ready .cells)))
 
 move-hammer-requires : tie.Need-move-hammer-requires
 move-hammer-requires c κs = search needs
 
 bridge-requires : tie.Need-bridge-requires
 bridge-requires c κs =
-    let ready = c .before .before .before .before .before .before .before .before .before .before .before .before .before .before .before .before .before .before .before .before .pre .0 in
+    let start = c .before .before .before .before .before .before .before .before .before .before .before .before .before .before .before .before .before .before .before .before in
+    let ready = start .pre .0 in
     let struck = c .before .before .before .before .before .strike-strings .kept .0 in
-    let filtered = c .before .before .before .before .before .before .before .before .before .before .before .before .filter-strings .kept in
-    record {
-      fit = ready .fit;
-      keys = ready .keys;
-      cells = omega (arith, struck, filtered .0, ready .cells);
-      scratch = omega (arith, filtered .1 .0, ready .scratch);
-    }
+    let filtered = c .before .before .before .before .before .before .before .before .before .before .before .before .filter-strings .kept in (
+      record {
+        fit = ready .fit;
+        keys = ready .keys;
+        cells = omega (arith, struck, filtered .0, ready .cells);
+        scratch = omega (arith, filtered .1 .0, ready .scratch);
+      },
+      start .pre .1 .0,
+    )
 
 flies-requires : tie.Need-flies-requires
 flies-requires c κs = search needs

@@ -15,6 +15,7 @@ use Rattle.string.specs.Table.{designAt, strings}
 use Rattle.points.specs.Points.{turned}
 use Rattle.strings.specs.Strings.{vIns}
 use Rattle.strings.specs.Walk.{At, at-start, at-fits, at-strung, at-turn, at-end}
+use Rattle.strings.specs.Laws.{index-fits}
 use Rattle.strings.proofs.filter_strings.Statement.{statement}
 use Rattle.strings.proofs.filter_strings.Tie as tie
 
@@ -25,13 +26,13 @@ abbrev carried : ℕ → ℕ → StringDesign → List Float → List Float → 
 carried t k d p v = set v k (vIn d t p)
 
 abbrev Inv-loop : tie.InvT-loop
-Inv-loop part₀ v-in₀ lengths coefficients n t at₀ i₀ part v-in at i = At (cells t) (carried t) lengths coefficients n part₀ v-in₀ part v-in at i × (length v-in ≡ length v-in₀)
+Inv-loop part₀ v-in₀ lengths coefficients indices n t at₀ i₀ part v-in at i = At (cells t) (carried t) lengths coefficients n part₀ v-in₀ part v-in at i × (length v-in ≡ length v-in₀)
 
 abbrev μ-loop : tie.MeasureT-loop
-μ-loop part₀ v-in₀ lengths coefficients n t at₀ i₀ part v-in at i = n - i
+μ-loop part₀ v-in₀ lengths coefficients indices n t at₀ i₀ part v-in at i = n - i
 
 loop-holds : tie.Need-loop-holds Inv-loop μ-loop
-loop-holds c = (at-start (c .before .before .pre .1 .0), refl)
+loop-holds c = (at-start (c .before .before .pre .1 .1 .0), refl)
 
 design-at-requires : tie.Need-design-at-requires Inv-loop μ-loop
 design-at-requires c κs = search needs
@@ -41,6 +42,9 @@ size-requires c κs = omega (arith, at-fits (c .before .before .loop .inv .0) (c
 
 add-e : tie.Need-add-e Inv-loop μ-loop
 add-e c = omega (arith, at-fits (c .before .before .before .loop .inv .0) (c .before .before .loop-test .taken) (c .before .design-at .result) (c .before .design-at .ensures))
+
+indices-at-requires : tie.Need-indices-at-requires Inv-loop μ-loop
+indices-at-requires c κs = search needs
 
 mul-filter-string : tie.Need-mul-filter-string Inv-loop μ-loop
 mul-filter-string c = omega arith
@@ -52,13 +56,18 @@ part-filter-string-start : tie.Need-part-filter-string-start Inv-loop μ-loop
 part-filter-string-start c = omega arith
 
 part-filter-string-end : tie.Need-part-filter-string-end Inv-loop μ-loop
-part-filter-string-end c = omega (arith, at-fits (c .before .before .before .loop .inv .0) (c .before .before .loop-test .taken) (c .before .design-at .result) (c .before .design-at .ensures))
+part-filter-string-end c = omega (arith, at-fits (c .before .before .before .before .loop .inv .0) (c .before .before .before .loop-test .taken) (c .before .before .design-at .result) (c .before .before .design-at .ensures))
 
 filter-string-requires : tie.Need-filter-string-requires Inv-loop μ-loop
 filter-string-requires c κs =
-    let design = c .before .before .design-at in
-    let size = c .before .size in
-    at-strung (c .before .before .before .before .loop .inv .0) (c .before .before .before .loop-test .taken) (design .result) (design .ensures) (c .before .before .before .before .before .before .before .pre .0) (size .result) (size .ensures)
+    let start = c .before .before .before .before .before .before .before .before in
+    let taken = c .before .before .before .before .loop-test .taken in
+    let design = c .before .before .before .design-at in
+    let size = c .before .before .size in
+    let indices = c .before .indices-at in (
+      at-strung (c .before .before .before .before .before .loop .inv .0) taken (design .result) (design .ensures) (start .pre .0) (size .result) (size .ensures),
+      index-fits (start .pre .1 .0) taken (design .result) (design .ensures) (indices .result) (indices .ensures),
+    )
 
 mul-v-in : tie.Need-mul-v-in Inv-loop μ-loop
 mul-v-in c = omega arith
@@ -74,14 +83,14 @@ loop-less c = omega arith
 
 loop-again : tie.Need-loop-again Inv-loop μ-loop
 loop-again c =
-    let loop = c .before .before .before .before .before .before .before in
+    let loop = c .before .before .before .before .before .before .before .before in
     let here = loop .loop in
     let at = loop .before .before .before .args in
     let call = c .before .before .filter-string in
-    let size = c .before .before .before .before .size in
-    let design = c .before .before .before .before .before .design-at in
+    let size = c .before .before .before .before .before .size in
+    let design = c .before .before .before .before .before .before .design-at in
     let d = design .result in
-    let turned = at-turn (here .inv .0) (c .before .before .before .before .before .before .loop-test .taken) d (design .ensures) (size .result) (call .last .0) (set (here .v-in) (here .i) (call .result)) (size .ensures)
+    let turned = at-turn (here .inv .0) (c .before .before .before .before .before .before .before .loop-test .taken) d (design .ensures) (size .result) (call .last .0) (set (here .v-in) (here .i) (call .result)) (size .ensures)
     (λ p e. filtered-length d (at .t) p e) (call .ensures .1) (ap (λ (y : Float). set (here .v-in) (here .i) y) (call .ensures .0)) in
     (turned, length-set (here .v-in) (here .i) (call .result) ∙ here .inv .1)
 
@@ -100,7 +109,7 @@ returns c =
     let n : length (strings (at .lengths .now) (at .coefficients .now) (at .n)) ≡ at .n = list-length (designAt (at .lengths .now) (at .coefficients .now)) 0 (at .n) in
     let m : 0 + length (strings (at .lengths .now) (at .coefficients .now) (at .n)) ≡ at .n = omega (arith, n) in
     let whole = at-end (loop .loop .inv .0) (c .loop-test .left) in
-    let stored = fold-collect sizeOf (λ k d p. vIn d (at .t) p) 0 ds (at .part .now) (at .v-in .now) (omega (arith, n, start .pre .1 .1)) in
+    let stored = fold-collect sizeOf (λ k d p. vIn d (at .t) p) 0 ds (at .part .now) (at .v-in .now) (omega (arith, n, start .pre .1 .1 .1)) in
     (whole .0, whole .1 ∙ stored ∙ ap (λ (k : ℕ). vIns ds (at .t) (at .part .now) ++ drop k (at .v-in .now)) m)
 
 pub filter-strings-spec : {M : Type 1} → statement M
@@ -113,6 +122,7 @@ filter-strings-spec =
     design-at-requires
     size-requires
     add-e
+    indices-at-requires
     mul-filter-string
     sub-filter-string
     part-filter-string-start
