@@ -3,3 +3,4 @@ pub mod Memory
 pub mod Stands
 pub mod Steps
 pub mod Demand
+pub mod Past
