@@ -1,6 +1,7 @@
 //! Compares the proved decimator with the Rust's, whose taps are lent in place of its sines: every factor from 0 to 64,
 //! signals and taps of many kinds, every output bit for bit, zeros and NaNs alike; then the refusals 17, 18 and 19 in
-//! their order. Cells around the output, and on refusal the output itself, must stay as they were.
+//! their order. Cells around the output, and on refusal the output itself, must stay as they were. Then the program
+//! `decimate`, which goes through a file in blocks: `decimate PROGRAM FOLDER` runs it on files in FOLDER.
 
 #[allow(dead_code)]
 mod common;
@@ -10,11 +11,13 @@ mod design;
 #[path = "../target/compare/model.rs"]
 mod model;
 mod power;
+mod wave_files;
 
 use common::{alike, Random};
 use decimating::{refusal_of, Output, MOST, TAPS};
 use std::collections::BTreeMap;
 use std::process::exit;
+use wave_files::{cluttered, float_bytes, wave, Program};
 
 /// Lengths at which the taps reach past one end, both or none.
 const LENGTHS: [usize; 20] = [0, 1, 2, 3, 31, 62, 63, 64, 65, 66, 100, 125, 126, 127, 128, 129, 130, 189, 190, 254];
@@ -47,6 +50,9 @@ struct Counts {
     infinite: u64,
     refused: BTreeMap<u32, u64>,
     untouched: u64,
+    files: u64,
+    file_outputs: u64,
+    complaints: u64,
 }
 
 fn fail(what: String) -> ! {
@@ -75,8 +81,22 @@ fn compare(counts: &mut Counts, x: &[f64], taps: &[f64], factor: usize) {
     counts.infinite += rust.iter().filter(|y| !y.is_finite()).count() as u64;
 }
 
+/// Document 01's row: 5 finite inputs by 2, with the only nonzero tap 1 at index 63, give the inputs 0, 2 and 4.
+fn row(random: &mut Random) {
+    let mut taps = [0.0; TAPS];
+    taps[63] = 1.0;
+    for _ in 0..1_000 {
+        let x: Vec<f64> = (0..5).map(|_| random.magnitude(-300.0, 300.0) * random.between(-1.0, 1.0)).collect();
+        let mut output = Output::new(3);
+        if output.decimate(&x, &taps, 2) != 0 || output.cells() != [x[0], x[2], x[4]] {
+            fail(format!("row: {x:?} gives {:?}", output.cells()));
+        }
+    }
+}
+
 fn accepted(counts: &mut Counts) {
     let mut random = Random::new(0x6465_6369);
+    row(&mut random);
     for factor in 0..=64 {
         for kind in 0..KINDS.len() {
             let lengths =
@@ -128,10 +148,108 @@ fn refused(counts: &mut Counts) {
     }
 }
 
+// ---- the program
+
+/// Lengths at which a block of the program's begins, ends or is just missed.
+fn file_lengths(random: &mut Random, factor: usize) -> Vec<usize> {
+    let block = 63 * factor.max(1);
+    let mut lengths = vec![0, 1, 62, 63, 64, 65, 127, 128, 1_000 + random.below(9_000) as usize];
+    for seam in [block, 2 * block, 3 * block] {
+        lengths.extend([seam - 63, seam - 1, seam, seam + 1, seam + 63, seam + 64, seam + 65]);
+    }
+    lengths
+}
+
+fn file_differs(counts: &mut Counts, program: &Program, x: &[f64], taps: &[f64], factor: usize, rate: u32) {
+    program.put("in.wav", &if x.len() % 2 == 0 { wave(rate, x) } else { cluttered(rate, x) });
+    program.put("taps", &float_bytes(taps));
+    let run = program.run("in.wav", "taps", &factor.to_string());
+    let rust = model::decimate(x, taps, factor);
+    let rounded = if factor <= 1 { rate } else { (rate as f64 / factor as f64).round() as u32 };
+    let said = format!("{} samples at {rate} Hz, factor {factor}: {} samples at {rounded} Hz\n", x.len(), rust.len());
+    let given = format!("program: factor {factor}, {} samples at {rate} Hz", x.len());
+    if run.said != said || !run.complained.is_empty() {
+        fail(format!("{given}: it says {:?} and complains {:?}", run.said, run.complained));
+    }
+    let expected = wave(rounded, &rust);
+    // zeros count alike, so the samples are compared as numbers
+    let plain = |bytes: &[u8]| bytes[58..].chunks_exact(8).map(|b| f64::from_le_bytes(b.try_into().unwrap())).collect();
+    let Some(output) = run.output.filter(|output| output.len() == expected.len() && output[..58] == expected[..58])
+    else {
+        fail(format!("{given}: another file"));
+    };
+    let found: Vec<f64> = plain(&output);
+    if let Some(at) = (0..rust.len()).find(|i| !alike(rust[*i], found[*i])) {
+        fail(format!("{given}: output {at} is {:e}, and the Rust has {:e}", found[at], rust[at]));
+    }
+    counts.files += 1;
+    counts.file_outputs += rust.len() as u64;
+}
+
+fn program(counts: &mut Counts, program: &Program) {
+    let mut random = Random::new(0x7761_7665);
+    for factor in [0, 1, 2, 3, 5, 31, 32, 33, 62, 63, 64] {
+        for length in file_lengths(&mut random, factor) {
+            let kind = random.below(6) as usize;
+            let (x, taps) = (numbers(&mut random, kind, length), numbers(&mut random, 0, TAPS));
+            let rate = [8_000, 44_100, 96_000, 1 + random.below(400_000) as u32][random.below(4) as usize];
+            file_differs(counts, program, &x, &taps, factor, rate);
+        }
+    }
+    let (x, taps) = (numbers(&mut random, 4, MOST), numbers(&mut random, 0, TAPS));
+    for factor in [1, 2, 64] {
+        file_differs(counts, program, &x, &taps, factor, 44_100);
+    }
+}
+
+/// What the program refuses: it names the file or the word, says what is wrong, and writes no output.
+fn complaints(counts: &mut Counts, program: &Program) {
+    program.put("good.wav", &wave(44_100, &[0.5; 5]));
+    program.put("taps", &[0; 8 * TAPS]);
+    program.put("few", &[0; 8 * TAPS - 8]);
+    program.put("many", &[0; 8 * TAPS + 1]);
+    let mut cases = vec![
+        ("missing.wav", "taps", "2", "missing.wav", "No such file"),
+        ("good.wav", "missing", "2", "missing", "No such file"),
+        ("good.wav", "few", "2", "few", "refused 18"),
+        ("good.wav", "many", "2", "many", "refused 18"),
+        ("good.wav", "taps", "65", "65", "refused 17"),
+        ("good.wav", "taps", "18446744073709551618", "18446744073709551618", "refused 17"),
+        ("good.wav", "taps", "two", "two", "no whole number"),
+        ("good.wav", "taps", "-2", "-2", "no whole number"),
+        ("good.wav", "taps", "", "", "no whole number"),
+        ("out.wav", "taps", "2", "out.wav", "it is the input"),
+    ];
+    let broken = wave_files::broken();
+    for (name, bytes, words) in &broken {
+        program.put(name, bytes);
+        cases.push((name, "taps", "2", name, words));
+    }
+    for (input, taps, factor, named, words) in cases {
+        let run = program.run(input, taps, factor);
+        let clear = run.complained.starts_with(&format!("{named}: ")) && run.complained.contains(words);
+        if !clear || !run.said.is_empty() || run.output.is_some() {
+            fail(format!(
+                "decimate {input} {taps} {factor}: it says {:?} and complains {:?}",
+                run.said, run.complained
+            ));
+        }
+        counts.complaints += 1;
+    }
+}
+
 fn main() {
+    let arguments: Vec<String> = std::env::args().skip(1).collect();
+    let [path, folder] = arguments.as_slice() else {
+        fail("usage: decimate PROGRAM FOLDER".to_string());
+    };
+    let path = std::fs::canonicalize(path).unwrap_or_else(|e| fail(format!("{path}: {e}")));
+    let files = Program { path, folder: folder.into() };
     let mut counts = Counts::default();
     accepted(&mut counts);
     refused(&mut counts);
+    program(&mut counts, &files);
+    complaints(&mut counts, &files);
     for (kind, count) in &counts.signals {
         println!("signals  {kind:<24} {count:>9}");
     }
@@ -144,5 +262,7 @@ fn main() {
         println!("refused  with {number:<19} {count:>9}");
     }
     println!("untouched {} output cells of refused calls", counts.untouched);
+    println!("files    {} through the program, {} outputs compared", counts.files, counts.file_outputs);
+    println!("files    {} refused, each with its reason", counts.complaints);
     println!("no signal differs");
 }

@@ -1,4 +1,7 @@
 // Mono WAV files of 64-bit floats: format 3, with the chunk `fact` that the format asks for.
+use little_endian::f64_at;
+use little_endian::u16_at;
+use little_endian::u32_at;
 ghost use mathlib.Core.Path.{_≡_};
 ghost use Prim.Native.Nat.{_≤_};
 ghost use lib.ListN.{length};
@@ -88,4 +91,72 @@ pub fn put_samples(samples: &[f64], bytes: &mut [u8]) -> usize
         at += 8;
     }
     at
+}
+
+// ---- reading
+
+const RIFF: u32 = 0x4646_4952;
+
+const WAVE: u32 = 0x4556_4157;
+
+const FMT: u32 = 0x2074_6d66;
+
+const DATA: u32 = 0x6174_6164;
+
+// Whether a file that begins with these 12 bytes is a WAV file.
+pub fn is_wave(b: &[u8]) -> bool {
+    (u32_at(b, 0) == RIFF) & (u32_at(b, 8) == WAVE)
+}
+
+pub enum Chunk {
+    Format,
+    Data,
+    Other,
+}
+
+// A chunk's first 8 bytes are its name and its size.
+pub fn chunk_of(b: &[u8]) -> Chunk {
+    let name = u32_at(b, 0);
+    if name == FMT {
+        Chunk::Format
+    } else if name == DATA {
+        Chunk::Data
+    } else {
+        Chunk::Other
+    }
+}
+
+pub fn chunk_size(b: &[u8]) -> u32 {
+    u32_at(b, 4)
+}
+
+// What the chunk `fmt ` says: of its bytes the first 16.
+pub struct Format {
+    pub tag: u16,
+    pub channels: u16,
+    pub rate: u32,
+    pub bits: u16,
+}
+
+pub fn format_of(b: &[u8]) -> Format {
+    Format {
+        tag: u16_at(b, 0),
+        channels: u16_at(b, 2),
+        rate: u32_at(b, 4),
+        bits: u16_at(b, 14),
+    }
+}
+
+// Whether the samples are 64-bit floats of one channel.
+pub fn is_mono_64(format: Format) -> bool {
+    (format.tag == 3) & (format.channels == 1) & (format.bits == 64)
+}
+
+// As many floats as `samples` has places, eight bytes each; bytes that are missing count as 0.
+pub fn get_samples(bytes: &[u8], samples: &mut [f64]) {
+    let mut at = 0usize;
+    for i in 0..samples.len() {
+        samples[i] = f64_at(bytes, at);
+        at = std::num::wrapping_add_usize(at, 8);
+    }
 }

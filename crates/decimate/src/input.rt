@@ -1,0 +1,233 @@
+// The input files: where a WAV file's samples lie, and the taps.
+use crate::report::complain;
+use wav::Chunk;
+
+// Where the samples start in the file and how many there are; `found` is false once something is wrong, and then it has been said.
+pub struct Wave {
+    pub found: bool,
+    pub rate: u64,
+    pub start: u64,
+    pub count: usize,
+}
+
+// The search through the chunks.
+enum Search {
+    Unformatted,
+    Formatted,
+    NoData,
+    NoFormat,
+    OtherFormat,
+    Found,
+}
+
+// Where the search stands: the chunk at `at` comes next, or the data of `size` bytes lie there.
+struct Place {
+    search: Search,
+    rate: u64,
+    at: u64,
+    size: u64,
+}
+
+fn wide(x: u32) -> u64 {
+    x as u64
+}
+
+// An offset that no file reaches stands for every larger one.
+fn offset_of(at: u64) -> i64 {
+    if at < 0x1000_0000_0000_0000 {
+        at as i64
+    } else {
+        0x1000_0000_0000_0000
+    }
+}
+
+// Fills b from the file's byte `at` on; false where the file ends before.
+pub fn read_at(fd: i32, b: &mut [u8], at: u64) -> bool {
+    libc::lseek(fd, offset_of(at), libc::SEEK_SET);
+    io::read_full(fd, b) == b.len()
+}
+
+fn after(at: u64, n: u64) -> u64 {
+    std::num::wrapping_add_u64(at, n)
+}
+
+fn stopped(search: Search) -> Place {
+    Place {
+        search,
+        rate: 0,
+        at: 0,
+        size: 0,
+    }
+}
+
+// The format that the chunk `fmt ` at `at` holds, and the chunk after it.
+fn read_format(fd: i32, at: u64, next: u64) -> Place {
+    let mut b = [0u8; 16];
+    if !read_at(fd, &mut b, at) {
+        return stopped(Search::NoData);
+    }
+    let format = wav::format_of(&b);
+    if !wav::is_mono_64(format) {
+        return stopped(Search::OtherFormat);
+    }
+    Place {
+        search: Search::Formatted,
+        rate: wide(format.rate),
+        at: next,
+        size: 0,
+    }
+}
+
+fn data_at(place: Place, at: u64, size: u64) -> Place {
+    let search = place.search;
+    match search {
+        Search::Formatted => Place {
+            search: Search::Found,
+            rate: place.rate,
+            at,
+            size,
+        },
+        _ => stopped(Search::NoFormat),
+    }
+}
+
+// One chunk on; other chunks are passed over, with the byte that fills an odd one up.
+fn pass_chunk(fd: i32, place: Place) -> Place {
+    let mut b = [0u8; 8];
+    if !read_at(fd, &mut b, place.at) {
+        return stopped(Search::NoData);
+    }
+    let size = wide(wav::chunk_size(&b));
+    let at = after(place.at, 8);
+    let next = after(after(at, size), size % 2);
+    let chunk = wav::chunk_of(&b);
+    match chunk {
+        Chunk::Format => read_format(fd, at, next),
+        Chunk::Data => data_at(place, at, size),
+        Chunk::Other => {
+            let search = place.search;
+            Place {
+                search,
+                rate: place.rate,
+                at: next,
+                size: 0,
+            }
+        }
+    }
+}
+
+fn is_over(search: Search) -> bool {
+    match search {
+        Search::Unformatted => false,
+        Search::Formatted => false,
+        _ => true,
+    }
+}
+
+// No file of 32-bit sizes has more chunks than turns.
+fn search_chunks(fd: i32) -> Place {
+    let mut place = Place {
+        search: Search::Unformatted,
+        rate: 0,
+        at: 12,
+        size: 0,
+    };
+    for turn in 0u32..0x2000_0000u32 {
+        let search = place.search;
+        if is_over(search) {
+            return place;
+        }
+        let next = pass_chunk(fd, place);
+        place = next;
+    }
+    stopped(Search::NoData)
+}
+
+fn no_wave() -> Wave {
+    Wave {
+        found: false,
+        rate: 0,
+        start: 0,
+        count: 0,
+    }
+}
+
+// Whether the file has its `size` bytes from `at` on: whether the last of them can be read.
+fn is_there(fd: i32, at: u64, size: u64) -> bool {
+    if size == 0 {
+        return true;
+    }
+    let mut b = [0u8; 1];
+    read_at(fd, &mut b, after(at, size - 1))
+}
+
+// The samples' number, and that they are all there.
+fn measure(fd: i32, path: &[u8], place: Place) -> Wave {
+    let size = place.size;
+    if size % 8 != 0 {
+        complain(path, b"its data are no whole number of samples");
+        return no_wave();
+    }
+    if 0x80_0000 < size {
+        complain(path, b"refused 17: the input exceeds 1,048,576 samples");
+        return no_wave();
+    }
+    if !is_there(fd, place.at, size) {
+        complain(path, b"its data are cut short");
+        return no_wave();
+    }
+    Wave {
+        found: true,
+        rate: place.rate,
+        start: place.at,
+        count: (size / 8) as usize,
+    }
+}
+
+// Where a file's samples are, or what is wrong with it.
+pub fn find_samples(fd: i32, path: &[u8]) -> Wave {
+    let mut b = [0u8; 12];
+    if !read_at(fd, &mut b, 0) {
+        complain(path, b"not a RIFF/WAVE file");
+        return no_wave();
+    }
+    if !wav::is_wave(&b) {
+        complain(path, b"not a RIFF/WAVE file");
+        return no_wave();
+    }
+    let place = search_chunks(fd);
+    let search = place.search;
+    match search {
+        Search::Found => measure(fd, path, place),
+        Search::OtherFormat => {
+            complain(path, b"not of format 3 (floats), one channel and 64 bits");
+            no_wave()
+        }
+        Search::NoFormat => {
+            complain(path, b"its data come before its format");
+            no_wave()
+        }
+        _ => {
+            complain(path, b"it has no data chunk");
+            no_wave()
+        }
+    }
+}
+
+// The 127 taps, or what is wrong with them.
+pub fn read_taps(path: &[u8], taps: &mut [f64; 127]) -> bool {
+    let fd = os::open_read(path);
+    if fd < 0 {
+        os::fail(path);
+        return false;
+    }
+    let mut b = io::buffer();
+    let n = io::read_full(fd, &mut b);
+    libc::close(fd);
+    if n != 1016 {
+        complain(path, b"refused 18: there aren't 127 taps (1,016 bytes)");
+        return false;
+    }
+    wav::get_samples(&b, taps);
+    true
+}
