@@ -2,21 +2,22 @@
 use mathlib.Core.Path.{_≡_, refl, sym, ap, _∙_}
 use mathlib.Core.Bool.{true}
 use mathlib.Core.List.{List}
-use Prim.Native.Nat.{ℕ, _≤_}
+use Prim.Native.Nat.{ℕ, _≤_, _<_}
 use native.Mathlib.Omega.{arith}
-use lib.ListN.{length, take, replicate}
+use lib.ListN.{length, take, getD, replicate}
 use lib.Seq.{length-take-le}
-use lib.Ieee.{Float}
+use lib.Ieee.{Float, nan}
 use Rattle.float.specs.Float.{zero as +0}
 use Rattle.counting.specs.Below.{pad, tabulate}
+use Rattle.counting.specs.Laws.{tabulate-cong}
 use Rattle.instrument.specs.declared.Instrument.{Instrument}
-use Rattle.instrument.specs.Valid.{valid}
+use Rattle.instrument.specs.Valid.{valid, keyAt}
 use Rattle.instrument.specs.ValidLaws.{valid-counts}
 use Rattle.instrument.specs.Work.{partCells}
 use Rattle.string.specs.declared.StringDesign.{StringDesign}
 use Rattle.string.specs.Table.{strings}
 use Rattle.strings.specs.Strings.{AllFit, cellsOf}
-use Rattle.model.specs.Model.{StringsFilled}
+use Rattle.model.specs.Model.{stringsOf, StringsFilled}
 use Rattle.model.specs.Laws.{filled-fit, filled-strings}
 use Rattle.render.specs.Work.{cells-are}
 use Rattle.session_record.specs.declared.Session.{Session}
@@ -25,7 +26,9 @@ use Rattle.session_record.specs.Laws.{Passed, passed}
 use Rattle.energies.specs.declared.KeyEnergy.{KeyEnergy}
 use Rattle.energies.specs.declared.Energies.{Energies}
 use Rattle.energies.specs.declared.EnergiesAnswer.{EnergiesAnswer}
-use Rattle.energies.specs.Energy.{sumsAfter, noEnergy, pairOf, energiesOf, refusedWith, EnergiesMeet}
+use Rattle.energies.specs.Energy.{noEnergy, keyEnergy, ofKey, energiesOf, refusedWith, EnergiesMeet}
+use Rattle.energies.specs.Steps.{sumsAfter, pairOf}
+use Rattle.energies.proofs.Sums.{key-sum}
 
 pub few : (i : Instrument) → valid i ≡ true → (i .«key_count» ≤ 16) × (i .«string_count» ≤ 32)
 few i h = let c = valid-counts i h in (c .fewKeys, c .fewStrings)
@@ -41,8 +44,11 @@ module _ (i : Instrument) (h : valid i ≡ true) (lengths : List ℕ) (coefficie
       → pairs ≡ pad 16 noEnergy (tabulate (i .«key_count») (pairOf i sums)) → record { keys = pairs; count = i .«key_count» } ≡ energiesOf i cells
   unfolding energiesOf
   energies-are sums pairs es ep =
-      let d : sums ≡ sumsAfter _ cells (replicate 16 +0) = es ∙ ap (λ (ds : List StringDesign). sumsAfter ds cells (replicate 16 +0)) (filled-strings i lengths coefficients (few i h .0) f) in
-      ap (λ (l : List KeyEnergy). record { keys = l; count = i .«key_count» }) (ep ∙ ap (λ (s : List Float). pad 16 noEnergy (tabulate (i .«key_count») (pairOf i s))) d)
+      let d = es ∙ ap (λ (ds : List StringDesign). sumsAfter ds cells (replicate 16 +0)) (filled-strings i lengths coefficients (few i h .0) f) in
+      let pair : ℕ → KeyEnergy = λ k. record { key = keyAt (i .keys) k .key; energy = keyEnergy i cells k } in
+      let each : (k : ℕ) → k < i .«key_count» → pairOf i sums k ≡ pair k =
+      λ k q. ap (λ (e : Float). record { key = keyAt (i .keys) k .key; energy = e }) (ap (λ (l : List Float). getD l k nan) d ∙ key-sum k (stringsOf i) cells (omega (arith, few i h .0))) in
+      ap (λ (l : List KeyEnergy). record { keys = l; count = i .«key_count» }) (ep ∙ ap (pad 16 noEnergy) (tabulate-cong (i .«key_count») (pairOf i sums) pair each))
 
 module _ (i : Instrument) (s : Session) (work : List Float) (n : ℕ) (e : n ≡ recordRefusal i s (length work)) where
   pub energies-refused : (n ≡ 0 → ⊥) → (r : EnergiesAnswer) → r ≡ refusedWith n → EnergiesMeet i s work r

@@ -1,13 +1,14 @@
 -- Document 01, "The session": "`key_energies` as in the Rust, one pair a key in file order, returned by value with zeros past the last key", after refusals 7 and 8. The Rust sums `v * v` over
 -- the cells of a line, that over the lines a_r, a_l, b_r, b_l, c_r, c_l of a string, that over a key's strings; sums start at +0. Definitions only: assumes nothing.
 use mathlib.Core.Path.{_≡_}
-use mathlib.Core.List.{List, [], _∷_, map}
+use mathlib.Core.Bool.{Bool, cond}
+use mathlib.Core.List.{List, [], _∷_, _++_, map}
 use Prim.Native.Nat.{ℕ}
-use lib.ListN.{length, take, getD, set, replicate}
-use lib.Ieee.{Float, nan, binary64, add, mul}
+use lib.Dec.{eqb}
+use lib.ListN.{length, take, drop, replicate}
+use lib.Ieee.{Float, binary64, add, mul}
 use Rattle.float.specs.Float.{zero as +0}
 use Rattle.cells.specs.Splice.{part}
-use Rattle.cells.specs.Fold.{foldParts}
 use Rattle.counting.specs.Below.{pad, tabulate}
 use Rattle.instrument.specs.declared.Instrument.{Instrument}
 use Rattle.instrument.specs.Valid.{keyAt}
@@ -26,6 +27,9 @@ unfoldable pub sumFrom : Float → List Float → Float
 sumFrom a [] = a
 sumFrom a (x ∷ xs) = sumFrom (add binary64 a x) xs
 
+abbrev pub keptIf : Bool → Float → List Float
+keptIf b x = cond b (x ∷ []) []
+
 abbrev pub square : Float → Float
 square v = mul binary64 v v
 
@@ -35,7 +39,6 @@ lineEnergy l = sumFrom +0 (map square l)
 
 -- the six lines, in their order
 unfoldable pub stringEnergy : StringDesign → List Float → Float
-unfolding sumFrom
 stringEnergy d p =
     sumFrom +0
     (lineEnergy (part 0 (d .na) p)
@@ -46,23 +49,22 @@ stringEnergy d p =
     ∷ lineEnergy (part (atCL d) (d .nc) p)
     ∷ [])
 
--- each string's is added to its key's sum, in the strings' order
-abbrev pub summedInto : ℕ → StringDesign → List Float → List Float → List Float
-summedInto i d p sums = set sums (d .key) (add binary64 (getD sums (d .key) nan) (stringEnergy d p))
+-- those of key k's strings, in their order; cells go string by string
+unfoldable pub ofKey : ℕ → List StringDesign → List Float → List Float
+ofKey k [] cells = []
+ofKey k (d ∷ ds) cells = keptIf (eqb (d .key) k) (stringEnergy d (take (sizeOf d) cells)) ++ ofKey k ds (drop (sizeOf d) cells)
 
-unfoldable pub sumsAfter : List StringDesign → List Float → List Float → List Float
-sumsAfter ds cells sums = foldParts sizeOf summedInto 0 ds cells sums
+-- a key's energy
+abbrev pub keyEnergy : Instrument → List Float → ℕ → Float
+keyEnergy i cells k = sumFrom +0 (ofKey k (stringsOf i) cells)
 
 -- one pair a key in file order, and zeros past the last
 abbrev pub noEnergy : KeyEnergy
 noEnergy = record { key = 0; energy = +0 }
 
-abbrev pub pairOf : Instrument → List Float → ℕ → KeyEnergy
-pairOf i sums k = record { key = keyAt (i .keys) k .key; energy = getD sums k nan }
-
 unfoldable pub energiesOf : Instrument → List Float → Energies
 energiesOf i cells = record {
-  keys = pad 16 noEnergy (tabulate (i .«key_count») (pairOf i (sumsAfter (stringsOf i) cells (replicate 16 +0))));
+  keys = pad 16 noEnergy (tabulate (i .«key_count») (λ k. record { key = keyAt (i .keys) k .key; energy = keyEnergy i cells k }));
   count = i .«key_count»;
 }
 

@@ -1,2 +1,3 @@
 pub mod Energy
+pub mod Steps
 pub mod Laws

@@ -14,7 +14,8 @@ ghost use Rattle.instrument.specs.Work.{partCells};
 ghost use Rattle.string.specs.String.{Strung};
 ghost use Rattle.string.specs.Table.{strings};
 ghost use Rattle.strings.specs.Strings.{AllFit, cellsOf};
-ghost use Rattle.energies.specs.Energy.{lineEnergy, stringEnergy, sumsAfter, noEnergy, pairOf, energiesOf, refusedWith, EnergiesMeet};
+ghost use Rattle.energies.specs.Energy.{lineEnergy, stringEnergy, noEnergy, energiesOf, refusedWith, EnergiesMeet};
+ghost use Rattle.energies.specs.Steps.{sumsAfter, pairOf};
 
 // A key's number and its energy.
 pub struct KeyEnergy {

@@ -6,7 +6,8 @@ use lib.ListN.{replicate}
 use borrow.Author.Needs.{needs}
 use Rattle.counting.specs.Below.{pad, tabulate}
 use Rattle.energies.specs.declared.KeyEnergy.{KeyEnergy}
-use Rattle.energies.specs.Energy.{noEnergy, pairOf}
+use Rattle.energies.specs.Energy.{noEnergy}
+use Rattle.energies.specs.Steps.{pairOf}
 use Rattle.energies.proofs.Sums.{pairs-start, pairs-more}
 use Rattle.energies.proofs.pairs_of.Statement.{statement}
 use Rattle.energies.proofs.pairs_of.Tie as tie

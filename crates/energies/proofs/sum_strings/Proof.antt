@@ -8,7 +8,7 @@ use lib.ListN.{getD, set}
 use lib.Ieee.{Float, nan, binary64, add}
 use Rattle.strings.specs.Walk.{At, at-start, at-fits, at-strung, at-end}
 use Rattle.strings.specs.Laws.{key-fits}
-use Rattle.energies.specs.Energy.{sumsAfter, summedInto}
+use Rattle.energies.specs.Steps.{sumsAfter, summedInto}
 use Rattle.energies.proofs.Sums.{kept, turn-kept}
 use Rattle.energies.proofs.sum_strings.Statement.{statement}
 use Rattle.energies.proofs.sum_strings.Tie as tie
