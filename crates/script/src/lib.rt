@@ -11,7 +11,8 @@ use word::Words;
 use word::is;
 use word::words_of;
 
-// What a line asks for, with its numbers beside it where it has any. A bad line says what it lacks.
+// What a line asks for, with its numbers beside it where it has any. A bad line says what it lacks; the last two
+// faults are for those to give that know how long a line or a buffer may be.
 pub enum Kind {
     Blank,
     Play,
@@ -40,6 +41,7 @@ pub enum Fault {
     NoVelocity,
     NoDirection,
     TooLarge,
+    LineTooLong,
 }
 
 // `number` is a count, a position or an index; an event's key, velocity and direction follow it.
@@ -61,7 +63,7 @@ fn made(kind: Kind, number: u64) -> Command {
     }
 }
 
-fn bad(fault: Fault) -> Command {
+pub fn bad(fault: Fault) -> Command {
     made(Kind::Bad(fault), 0)
 }
 
@@ -194,7 +196,7 @@ pub fn command_of(line: &[u8]) -> Command {
     let first = words[0];
     if ws.count == 0 {
         made(Kind::Blank, 0)
-    } else if little_endian::byte_at(line, first.start) == b'#' {
+    } else if little_endian::byte_at(line, 0) == b'#' {
         made(Kind::Blank, 0)
     } else if is(line, first, b"play") {
         with_number(line, ws, 1, Kind::Play)

@@ -140,7 +140,7 @@ fn with_byte(x: Decimal, b: u8) -> Decimal
             good: x.good,
         };
     }
-    let good = x.good & (b == b'.') & !x.point & (x.count != 0);
+    let good = x.good & (b == b'.') & !x.point;
     Decimal {
         n: x.n,
         count: x.count,
@@ -150,7 +150,7 @@ fn with_byte(x: Decimal, b: u8) -> Decimal
     }
 }
 
-// Digits with at most one point between two of them. Fifteen digits and a power of ten up to the
+// Digits with at most one point among them. Fifteen digits and a power of ten up to the
 // fifteenth are floats exactly, so the one division rounds once.
 fn decimal_of(line: &[u8], from: usize, end: usize) -> Velocity {
     let mut x = Decimal {
@@ -165,7 +165,7 @@ fn decimal_of(line: &[u8], from: usize, end: usize) -> Velocity {
         x = with_byte(x, byte_at(line, k));
         k += 1;
     }
-    if !x.good | (x.count == 0) | (x.point & (x.behind == 0)) {
+    if !x.good | (x.count == 0) {
         return Velocity::None;
     }
     Velocity::Value(std::num::nearest_u64_to_f64(x.n) / ten_to(x.behind))

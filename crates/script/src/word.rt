@@ -15,7 +15,7 @@ pub struct Words {
 }
 
 fn is_space(b: u8) -> bool {
-    (b == b' ') | (b == b'\t') | (b == b'\r')
+    (b == b' ') | (b == b'\t')
 }
 
 // The first place from i on where the line has a space, or has none.
