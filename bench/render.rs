@@ -18,7 +18,6 @@ mod power;
 #[allow(dead_code)]
 #[path = "../target/compare/published.rs"]
 mod published;
-#[allow(dead_code)]
 #[path = "../compare/rendering.rs"]
 mod rendering;
 

@@ -6,6 +6,7 @@
 #[allow(dead_code)]
 mod common;
 mod design;
+mod energies;
 #[allow(dead_code)]
 mod instrument;
 #[allow(dead_code)]
@@ -136,7 +137,7 @@ struct Counts {
 /// The energies of a part's cells against those of the Rust whose lines hold them.
 fn energies_differ(counts: &mut Counts, rust: &Piano, file: &[u8], part: &[f64]) -> Option<String> {
     let expected = rust.key_energies();
-    let Some(found) = rendering::energies(file, part) else {
+    let Some(found) = energies::energies(file, part) else {
         return Some("energies past the last key".to_string());
     };
     counts.energies += found.len() as u64;

@@ -1,5 +1,4 @@
-//! The proved renderer and the keys' energies under the names that their library exports, for the comparison and the
-//! bench.
+//! The proved renderer under the name that its library exports, for the comparison and the bench.
 
 use crate::model::Event;
 
@@ -65,17 +64,6 @@ extern "C" {
         trace: *mut f64,
         trace_length: usize,
     ) -> Small;
-
-    /// Each key's energy in a part of work memory.
-    fn energies_in(file: *const u8, file_length: usize, part: *const f64, part_length: usize) -> KeyTable;
-}
-
-/// The first `count` keys' numbers and energies, zeros past them.
-#[repr(C)]
-struct KeyTable {
-    keys: [u8; 16],
-    energies: [f64; 16],
-    count: usize,
 }
 
 /// A score as the library takes it.
@@ -142,12 +130,4 @@ pub fn block(file: &[u8], score: &Score, small: Small, t: u64, lent: Buffers) ->
             lent.trace.len(),
         )
     }
-}
-
-/// The proved energies, one pair a key; None where places past the last key hold no zeros.
-pub fn energies(file: &[u8], part: &[f64]) -> Option<Vec<(u8, f64)>> {
-    let table = unsafe { energies_in(file.as_ptr(), file.len(), part.as_ptr(), part.len()) };
-    let mut pairs: Vec<(u8, f64)> = table.keys.into_iter().zip(table.energies).collect();
-    let past = pairs.split_off(table.count);
-    past.iter().all(|(key, energy)| *key == 0 && energy.to_bits() == 0).then_some(pairs)
 }

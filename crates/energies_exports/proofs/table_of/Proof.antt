@@ -1,7 +1,7 @@
 use Prim.Native.Nat.{_-_, _≤_}
 use borrow.Author.Needs.{needs}
-use Rattle.render_exports.proofs.table_of.Statement.{statement}
-use Rattle.render_exports.proofs.table_of.Tie as tie
+use Rattle.energies_exports.proofs.table_of.Statement.{statement}
+use Rattle.energies_exports.proofs.table_of.Tie as tie
 
 abbrev Inv-loop : tie.InvT-loop
 Inv-loop from keys₀ energies₀ k₀ keys energies k = k ≤ 16

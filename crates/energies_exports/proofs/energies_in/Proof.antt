@@ -1,11 +1,11 @@
--- `render_exports::energies_in` is safe: its tests give what the energies require. Assumes nothing.
+-- `energies_exports::energies_in` is safe: its tests give what the energies require. Assumes nothing.
 use mathlib.Core.Path.{_≡_, sym, _∙_}
 use native.Mathlib.Omega.{arith}
 use borrow.Author.Tests.{not-false}
 use Rattle.instrument.specs.WorkLaws.{cells-are}
 use borrow.Author.Needs.{needs}
-use Rattle.render_exports.proofs.energies_in.Statement.{statement}
-use Rattle.render_exports.proofs.energies_in.Tie as tie
+use Rattle.energies_exports.proofs.energies_in.Statement.{statement}
+use Rattle.energies_exports.proofs.energies_in.Tie as tie
 
 read-requires : tie.Need-read-requires
 read-requires c κs = search needs
