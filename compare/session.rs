@@ -28,13 +28,13 @@ use std::process::{exit, Command, Stdio};
 
 /// How many lists of each theme, and how many of them go into the stored sample.
 const LISTS: [(Theme, u64, usize); 7] = [
-    (Theme::Mixed, 1_000, 12),
-    (Theme::Wild, 500, 6),
-    (Theme::Edits, 400, 8),
+    (Theme::Mixed, 1_000, 24),
+    (Theme::Wild, 500, 12),
+    (Theme::Edits, 400, 12),
     (Theme::Full, 150, 3),
-    (Theme::Lent, 250, 4),
+    (Theme::Lent, 250, 6),
     (Theme::Far, 24, 1),
-    (Theme::Large, 60, 2),
+    (Theme::Large, 60, 3),
 ];
 
 /// How many refused files of each number from 1 to 6; the first of each goes into the stored sample.
@@ -44,7 +44,7 @@ const REFUSED_FILES: u64 = 40;
 const EACH_REFUSAL: u64 = 100;
 
 /// A stored list has no more samples.
-const STORED_SAMPLES: usize = 300;
+const STORED_SAMPLES: usize = 5_000;
 
 fn fail(message: String) -> ! {
     eprintln!("session: {message}");
@@ -257,10 +257,13 @@ impl Counts {
     }
 }
 
+fn is_skipped(line: &str) -> bool {
+    line.trim().is_empty() || line.starts_with('#')
+}
+
 /// The lines of a script that are answered, with their answers.
 fn answered<'a>(list: &'a List, answers: &'a [Answer]) -> Vec<(&'a str, &'a Answer)> {
-    let skipped = |line: &&str| line.trim().is_empty() || line.starts_with('#');
-    let lines = list.script.lines().filter(|line| !skipped(line));
+    let lines = list.script.lines().filter(|line| !is_skipped(line));
     lines.zip(&answers[1..]).collect()
 }
 
@@ -279,31 +282,43 @@ fn hexadecimal(bytes: &[u8]) -> String {
     bytes.iter().map(|b| format!("{b:02x}")).collect()
 }
 
-fn words(floats: &[f64]) -> String {
-    floats.iter().map(|x| format!(" {:016x}", word(*x))).collect()
-}
-
 // ---- the stored sample
 
-/// A list as the sample has it: each line, then its answer, without a refusal's free words, and what it played.
+/// The sum that stands for floats in the sample: each changes it, and so does their order. Both zeros count alike.
+fn sum(floats: &[f64]) -> u64 {
+    floats.iter().fold(0, |sum: u64, x| {
+        let bits = if *x == 0.0 { 0 } else { word(*x) };
+        (sum.rotate_left(7) ^ bits).wrapping_add(0x9e37_79b9_7f4a_7c15)
+    })
+}
+
+/// An answer as the sample has it: without the free words of a refusal or a bad line; behind a play the sums of its
+/// samples and forces.
+fn stored_answer(answer: &Answer) -> String {
+    let text = format!("answer {}\n", numbered(&answer.text).unwrap_or(&answer.text));
+    if answer.samples.is_empty() {
+        text
+    } else {
+        format!("{text}sums {:016x} {:016x}\n", sum(&answer.samples), sum(&answer.forces))
+    }
+}
+
+/// A list as the sample has it: the instrument, then each line of the script, with its answer where it has one.
 fn stored(list: &List, answers: &[Answer]) -> String {
-    let head = |answer: &Answer| numbered(&answer.text).unwrap_or(&answer.text).to_string();
-    let mut text = format!("list {:?}\n", list.theme).to_lowercase();
-    let _ = writeln!(text, "instrument {}", hexadecimal(&list.instrument.bytes()));
-    let _ = writeln!(text, "answer {}", head(&answers[0]));
-    for (line, answer) in answered(list, answers) {
-        let _ = writeln!(text, "line {line}\nanswer {}", head(answer));
-        for (name, floats) in [("samples", &answer.samples), ("forces", &answer.forces)] {
-            if !floats.is_empty() {
-                let _ = writeln!(text, "{name}{}", words(floats));
-            }
+    let mut text = format!("instrument {}\n", hexadecimal(&list.instrument.bytes()));
+    let mut answers = answers.iter();
+    text.extend(answers.next().map(stored_answer));
+    for line in list.script.lines() {
+        let _ = writeln!(text, "line {line}");
+        if !is_skipped(line) {
+            text.extend(answers.next().map(stored_answer));
         }
     }
     text
 }
 
 fn stored_refusal(file: &[u8], number: u8) -> String {
-    format!("list file\ninstrument {}\nanswer refused {number}\n", hexadecimal(file))
+    format!("instrument {}\nanswer refused {number}\n", hexadecimal(file))
 }
 
 fn few_samples(answers: &[Answer]) -> bool {

@@ -49,6 +49,6 @@ pub fn put_fault(line: &mut [u8], at: usize, fault: Fault) -> usize {
         ),
         Fault::NoDirection => put(line, at, b"a pedal goes down or up"),
         Fault::TooLarge => put(line, at, b"the number is larger than the program's memory"),
-        Fault::LineTooLong => put(line, at, b"the line is longer than 65536 bytes"),
+        Fault::LineTooLong => put(line, at, b"the line is longer than 65535 bytes"),
     }
 }

@@ -101,20 +101,27 @@ fn rehearse_on(instrument: Instrument, script: &[u8], wav: &[u8], forces: &[u8],
     );
 }
 
-fn rehearse_files(has_forces: bool) {
-    let mut path = io::buffer();
-    let n = os::arg(1, &mut path);
-    let loaded = files::load_instrument(&path[..n]);
-    if !loaded.is_accepted {
-        return;
-    }
-    let instrument = loaded.instrument;
+fn rehearse_with(instrument: Instrument, has_forces: bool) {
     let mut script = io::buffer();
     let a = os::arg(2, &mut script);
+    if os::errno() != 0 {
+        files::fail(b"SCRIPT");
+        return;
+    }
     let mut wav = io::buffer();
     let b = os::arg(3, &mut wav);
+    if os::errno() != 0 {
+        files::fail(b"OUT.wav");
+        return;
+    }
     let mut forces = io::buffer();
     let c = os::arg(4, &mut forces);
+    if has_forces {
+        if os::errno() != 0 {
+            files::fail(b"FORCES");
+            return;
+        }
+    }
     rehearse_on(
         instrument,
         &script[..a],
@@ -122,6 +129,21 @@ fn rehearse_files(has_forces: bool) {
         &forces[..c],
         has_forces,
     );
+}
+
+fn rehearse_files(has_forces: bool) {
+    let mut path = io::buffer();
+    let n = os::arg(1, &mut path);
+    if os::errno() != 0 {
+        files::fail(b"INSTRUMENT");
+        return;
+    }
+    let loaded = files::load_instrument(&path[..n]);
+    if !loaded.is_accepted {
+        return;
+    }
+    let instrument = loaded.instrument;
+    rehearse_with(instrument, has_forces);
 }
 
 fn main() {

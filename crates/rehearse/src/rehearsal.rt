@@ -7,11 +7,11 @@ use crate::output;
 use crate::output::Output;
 use console::Console;
 use console::Reply;
-use console::Turn;
 use instrument::Instrument;
 use libc::STDERR_FILENO;
 use libc::STDOUT_FILENO;
 use script::Command;
+use session_record::Session;
 use std::num::wrapping_add_u64;
 
 // Whether the rehearsal goes on, and else how it ended: at the script's end, or where a read or a write failed.
@@ -31,8 +31,7 @@ pub struct Places {
 }
 
 // `line` is the number of the script's line that comes next, `due` the time of the next sign of life.
-pub struct Rehearsal {
-    pub console: Console,
+pub struct Progress {
     pub reader: Reader,
     pub answers: Output,
     pub line: u64,
@@ -41,17 +40,20 @@ pub struct Rehearsal {
     pub ending: Ending,
 }
 
-fn ended(r: Rehearsal, ending: Ending) -> Rehearsal {
-    let console = r.console;
-    let reader = r.reader;
-    let answers = r.answers;
-    Rehearsal {
-        console,
+pub struct Rehearsal {
+    pub console: Console,
+    pub progress: Progress,
+}
+
+fn ended(p: Progress, ending: Ending) -> Progress {
+    let reader = p.reader;
+    let answers = p.answers;
+    Progress {
         reader,
         answers,
-        line: r.line,
-        samples: r.samples,
-        due: r.due,
+        line: p.line,
+        samples: p.samples,
+        due: p.due,
         ending,
     }
 }
@@ -86,16 +88,14 @@ fn show_life(line: u64, t: u64) {
 }
 
 // Where it is due: a line on standard error, and the answers so far.
-fn live(r: Rehearsal, answers: &[u8]) -> Rehearsal {
+fn live(p: Progress, t: u64, answers: &[u8]) -> Progress {
     let time = work_time();
-    if time < r.due {
-        return r;
+    if time < p.due {
+        return p;
     }
-    let console = r.console;
-    let session = console.session;
-    show_life(r.line, session.t);
-    let mut next = r;
-    let flushed = output::flush(answers, r.answers);
+    show_life(p.line, t);
+    let flushed = output::flush(answers, p.answers);
+    let mut next = p;
     next.answers = flushed;
     next.due = time + PATIENCE;
     next
@@ -111,22 +111,31 @@ fn put_line(answers: &mut [u8], out: Output, line: &[u8]) -> Output {
     output::put(answers, with_line, b"\n")
 }
 
-// The answer to a turn, which moves on to the next line.
-fn say(instrument: Instrument, r: Rehearsal, turn: Turn, answers: &mut [u8]) -> Rehearsal {
-    let console = turn.console;
-    let session = console.session;
-    let reply = turn.reply;
+// A line of answer, behind which the script's next line comes.
+fn say(p: Progress, line: &[u8], answers: &mut [u8]) -> Progress {
+    let said = put_line(answers, p.answers, line);
+    let mut next = p;
+    next.answers = said;
+    next.line = wrapping_add_u64(p.line, 1);
+    if said.is_failed {
+        return ended(next, Ending::AnswersFailed);
+    }
+    next
+}
+
+fn say_reply(
+    p: Progress,
+    reply: Reply,
+    instrument: Instrument,
+    session: Session,
+    answers: &mut [u8],
+) -> Progress {
     let mut line = [0u8; 1024];
     let n = output::count(
-        console::put_reply(&mut line, r.line, reply, instrument, session),
+        console::put_reply(&mut line, p.line, reply, instrument, session),
         &line,
     );
-    let said = put_line(answers, r.answers, &line[..n]);
-    let mut next = r;
-    next.console = console;
-    next.answers = said;
-    next.line = wrapping_add_u64(r.line, 1);
-    next
+    say(p, &line[..n], answers)
 }
 
 // The samples and forces of a play go into their files.
@@ -151,39 +160,25 @@ fn write_played(
 }
 
 fn store(
-    r: Rehearsal,
+    p: Progress,
     places: Places,
     samples: usize,
     forces: usize,
     out: &[f64],
     trace: &[f64],
     bytes: &mut [u8],
-) -> Rehearsal {
-    let ending = write_played(places, samples, forces, out, trace, bytes);
-    let mut next = ended(r, ending);
-    next.samples = wrapping_add_u64(r.samples, samples as u64);
+) -> Progress {
+    let ending = p.ending;
+    if !goes_on(ending) {
+        return p;
+    }
+    let written = write_played(places, samples, forces, out, trace, bytes);
+    let mut next = ended(p, written);
+    next.samples = wrapping_add_u64(p.samples, samples as u64);
     next
 }
 
-// What a turn answered and played goes out.
-fn deliver(
-    instrument: Instrument,
-    r: Rehearsal,
-    turn: Turn,
-    places: Places,
-    out: &[f64],
-    trace: &[f64],
-    answers: &mut [u8],
-    bytes: &mut [u8],
-) -> Rehearsal {
-    let said = say(instrument, r, turn, answers);
-    let so_far = said.answers;
-    if so_far.is_failed {
-        return ended(said, Ending::AnswersFailed);
-    }
-    store(said, places, turn.samples, turn.forces, out, trace, bytes)
-}
-
+// A line's call, its answer, and what it played.
 fn call(
     instrument: Instrument,
     r: Rehearsal,
@@ -196,41 +191,46 @@ fn call(
     answers: &mut [u8; 65536],
     bytes: &mut [u8; 65536],
 ) -> Rehearsal {
-    let console = r.console;
-    let turn = console::answer(instrument, console, command, work, scratch, out, trace);
-    deliver(instrument, r, turn, places, out, trace, answers, bytes)
+    let before = r.console;
+    let turn = console::answer(instrument, before, command, work, scratch, out, trace);
+    let console = turn.console;
+    let session = console.session;
+    let reply = turn.reply;
+    let said = say_reply(r.progress, reply, instrument, session, answers);
+    let progress = store(said, places, turn.samples, turn.forces, out, trace, bytes);
+    Rehearsal { console, progress }
 }
 
 // A read may wait, so all answers are out before it.
-fn flush_waiting(r: Rehearsal, input: &[u8], answers: &[u8]) -> Rehearsal {
-    if !lines::is_waiting(input, r.reader) {
-        return r;
+fn flush_waiting(p: Progress, input: &[u8], answers: &[u8]) -> Progress {
+    if !lines::is_waiting(input, p.reader) {
+        return p;
     }
-    let flushed = output::flush(answers, r.answers);
-    let mut next = r;
+    let flushed = output::flush(answers, p.answers);
+    let mut next = p;
     next.answers = flushed;
     next
 }
 
 // The script's next line, if the rehearsal goes on.
 struct Asked {
-    rehearsal: Rehearsal,
+    progress: Progress,
     command: Command,
 }
 
-fn ask(r: Rehearsal, input: &mut [u8]) -> Asked {
-    let line = lines::next(input, r.reader);
+fn ask(p: Progress, input: &mut [u8]) -> Asked {
+    let line = lines::next(input, p.reader);
     let command = lines::command_of(input, line);
     let reader = line.reader;
-    let mut next = r;
+    let mut next = p;
     next.reader = reader;
     let found = line.found;
-    let rehearsal = match found {
+    let progress = match found {
         Found::End => ended(next, Ending::Finished),
         Found::Failed => ended(next, Ending::ScriptFailed),
         _ => next,
     };
-    Asked { rehearsal, command }
+    Asked { progress, command }
 }
 
 fn goes_on(ending: Ending) -> bool {
@@ -238,6 +238,13 @@ fn goes_on(ending: Ending) -> bool {
         Ending::GoesOn => true,
         _ => false,
     }
+}
+
+// What comes before a line is read, and the line.
+fn read_line(p: Progress, t: u64, input: &mut [u8], answers: &[u8]) -> Asked {
+    let lived = live(p, t, answers);
+    let flushed = flush_waiting(lived, input, answers);
+    ask(flushed, input)
 }
 
 fn rehearse_line(
@@ -252,11 +259,13 @@ fn rehearse_line(
     answers: &mut [u8; 65536],
     bytes: &mut [u8; 65536],
 ) -> Rehearsal {
-    let flushed = flush_waiting(live(r, answers), input, answers);
-    let asked = ask(flushed, input);
-    let before = asked.rehearsal;
+    let console = r.console;
+    let session = console.session;
+    let asked = read_line(r.progress, session.t, input, answers);
+    let progress = asked.progress;
     let command = asked.command;
-    let ending = before.ending;
+    let ending = progress.ending;
+    let before = Rehearsal { console, progress };
     if !goes_on(ending) {
         return before;
     }
@@ -285,7 +294,7 @@ fn rehearse_lines(
     input: &mut [u8; 65536],
     answers: &mut [u8; 65536],
     bytes: &mut [u8; 65536],
-) -> Rehearsal {
+) -> Progress {
     let mut r = start;
     for i in 0..u64::MAX {
         let next = rehearse_line(
@@ -300,17 +309,18 @@ fn rehearse_lines(
             answers,
             bytes,
         );
-        let ending = next.ending;
-        r = next;
+        let progress = next.progress;
+        let ending = progress.ending;
         if !goes_on(ending) {
-            return r;
+            return progress;
         }
+        r = next;
     }
-    r
+    r.progress
 }
 
 // The opening's line comes first, then the script's.
-fn start(
+fn open_console(
     instrument: Instrument,
     reader: Reader,
     work: &mut [f64],
@@ -319,8 +329,9 @@ fn start(
 ) -> Rehearsal {
     let turn = console::open(instrument, work, trace);
     let console = turn.console;
-    let r = Rehearsal {
-        console,
+    let session = console.session;
+    let reply = turn.reply;
+    let start = Progress {
         reader,
         answers: output::empty(STDOUT_FILENO),
         line: 0,
@@ -328,12 +339,12 @@ fn start(
         due: work_time() + PATIENCE,
         ending: Ending::GoesOn,
     };
-    let said = say(instrument, r, turn, answers);
-    let reply = turn.reply;
-    match reply {
+    let said = say_reply(start, reply, instrument, session, answers);
+    let progress = match reply {
         Reply::Opened => said,
         _ => ended(said, Ending::Finished),
-    }
+    };
+    Rehearsal { console, progress }
 }
 
 pub struct Played {
@@ -342,29 +353,29 @@ pub struct Played {
 }
 
 // All answers are out at the end. A failure's words are the system's last, so that nothing is called behind it.
-fn finish(r: Rehearsal, answers: &[u8; 65536]) -> Played {
-    let ending = r.ending;
+fn finish(p: Progress, answers: &[u8; 65536]) -> Played {
+    let ending = p.ending;
     match ending {
         Ending::Finished => {
-            let out = output::flush(answers, r.answers);
+            let out = output::flush(answers, p.answers);
             let last = if out.is_failed {
                 Ending::AnswersFailed
             } else {
                 Ending::Finished
             };
             Played {
-                samples: r.samples,
+                samples: p.samples,
                 ending: last,
             }
         }
         _ => Played {
-            samples: r.samples,
+            samples: p.samples,
             ending,
         },
     }
 }
 
-// The program's memory: document 01's largest instrument has 662,000 cells of work memory, and six scratch cells for each of 32 strings.
+// The program's memory: document 01's largest instrument has five parts of 132,384 cells, and six scratch cells for each of 32 strings.
 pub fn play_script(
     instrument: Instrument,
     reader: Reader,
@@ -377,7 +388,7 @@ pub fn play_script(
     let mut trace = [0.0; 65536];
     let mut answers = io::large_buffer();
     let mut bytes = io::large_buffer();
-    let opened = start(instrument, reader, &mut work, &trace, &mut answers);
+    let opened = open_console(instrument, reader, &mut work, &trace, &mut answers);
     let last = rehearse_lines(
         instrument,
         opened,
