@@ -29,7 +29,6 @@ pub enum Theme {
 }
 
 pub struct List {
-    pub theme: Theme,
     pub instrument: Instrument,
     pub script: String,
 }
@@ -523,5 +522,5 @@ pub fn list(random: &mut Random, theme: Theme, energies: bool) -> List {
         }
         writer.script
     };
-    List { theme, instrument, script }
+    List { instrument, script }
 }

@@ -28,11 +28,11 @@ use std::process::{exit, Command, Stdio};
 
 /// How many lists of each theme, and how many of them go into the stored sample.
 const LISTS: [(Theme, u64, usize); 7] = [
-    (Theme::Mixed, 1_000, 24),
-    (Theme::Wild, 500, 12),
-    (Theme::Edits, 400, 12),
-    (Theme::Full, 150, 3),
-    (Theme::Lent, 250, 6),
+    (Theme::Mixed, 1_000, 32),
+    (Theme::Wild, 500, 16),
+    (Theme::Edits, 400, 24),
+    (Theme::Full, 150, 4),
+    (Theme::Lent, 250, 8),
     (Theme::Far, 24, 1),
     (Theme::Large, 60, 3),
 ];

@@ -1,8 +1,5 @@
 // A script's lines, one after the other: each is read, called, answered, and what it played is written.
 use crate::files::fail;
-use crate::lines;
-use crate::lines::Found;
-use crate::lines::Reader;
 use crate::output;
 use crate::output::Output;
 use console::Console;
@@ -10,6 +7,8 @@ use console::Reply;
 use instrument::Instrument;
 use libc::STDERR_FILENO;
 use libc::STDOUT_FILENO;
+use lines::Found;
+use lines::Reader;
 use script::Command;
 use session_record::Session;
 use std::num::wrapping_add_u64;

@@ -1,8 +1,8 @@
 -- Safe and ending: each turn is one place nearer to the end. Assumes nothing.
 use Prim.Native.Nat.{_-_}
 use borrow.Author.Needs.{needs}
-use Rattle.rehearse.proofs.lines.find_feed.Statement.{statement}
-use Rattle.rehearse.proofs.lines.find_feed.Tie as tie
+use Rattle.lines.proofs.find_feed.Statement.{statement}
+use Rattle.lines.proofs.find_feed.Tie as tie
 
 abbrev Inv-loop : tie.InvT-loop
 Inv-loop buffer from to i₀ i = Unit {0}

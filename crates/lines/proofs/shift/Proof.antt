@@ -3,8 +3,8 @@ use mathlib.Core.Path.{_≡_}
 use Prim.Native.Nat.{_≤_, _-_, _+_}
 use lib.ListN.{length}
 use borrow.Author.Needs.{needs}
-use Rattle.rehearse.proofs.lines.shift.Statement.{statement}
-use Rattle.rehearse.proofs.lines.shift.Tie as tie
+use Rattle.lines.proofs.shift.Statement.{statement}
+use Rattle.lines.proofs.shift.Tie as tie
 
 abbrev Inv-loop : tie.InvT-loop
 Inv-loop buffer₀ start end n i₀ buffer i = (i ≤ n) × (start + n ≤ length buffer) × (length buffer ≡ length buffer₀)

@@ -3,8 +3,8 @@ use mathlib.Core.Path.{_≡_}
 use Prim.Native.Nat.{_-_}
 use lib.ListN.{length}
 use borrow.Author.Needs.{needs}
-use Rattle.rehearse.proofs.lines.next.Statement.{statement}
-use Rattle.rehearse.proofs.lines.next.Tie as tie
+use Rattle.lines.proofs.next.Statement.{statement}
+use Rattle.lines.proofs.next.Tie as tie
 
 abbrev Inv-loop : tie.InvT-loop
 Inv-loop buffer₀ r₀ turn₀ buffer r turn = length buffer ≡ length buffer₀
