@@ -1,0 +1,28 @@
+// The sum that stands for floats in the stored lists, as `compare/session` makes it.
+use std::num::wrapping_add_u64;
+
+// Both zeros count alike, and so do all NaNs.
+fn bits_of(x: f64) -> u64 {
+    if x == 0.0 {
+        return 0;
+    }
+    wav::bits_of(x)
+}
+
+// A rotation by seven bits, then the float's bits, then a constant: each float changes the sum, and so does their order.
+fn with_float(sum: u64, x: f64) -> u64 {
+    wrapping_add_u64(
+        ((sum << 7) | (sum >> 57)) ^ bits_of(x),
+        0x9e37_79b9_7f4a_7c15,
+    )
+}
+
+// Of the first n floats.
+pub fn sum_of(floats: &[f64], n: usize) -> u64 {
+    let end = console::fitting(n, floats);
+    let mut sum = 0u64;
+    for i in 0..end {
+        sum = with_float(sum, floats[i]);
+    }
+    sum
+}
