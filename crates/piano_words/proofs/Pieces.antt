@@ -1,0 +1,103 @@
+-- What a function stores or reads of a piano's small state, over plain words. Assumes nothing.
+use mathlib.Core.Path.{_≡_, refl, sym, ap, _∙_}
+use mathlib.Core.Bool.{Bool, true, false, cond}
+use mathlib.Core.List.{List, [], _∷_, _++_}
+use Prim.Native.Nat.{ℕ, suc, _+_, _*_}
+use native.Mathlib.Nat.{add-zero}
+use native.Mathlib.Omega.{arith}
+use lib.Dec.{eqb}
+use lib.Ieee.{Float, nan, binary64, ofBits, toBits}
+use lib.ListN.{length, getD, drop, set}
+use lib.Seq.{sets, getD-drop, drop-drop}
+use borrow.Author.Tests.{eq-eqb, ne-eqb}
+use Rattle.points.specs.declared.HammerState.{HammerState}
+use Rattle.points.specs.declared.HammerState.the-variants.{Resting, Flying}
+use Rattle.sample.specs.declared.Motion.{Motion}
+use Rattle.score.specs.declared.Piano.{Piano}
+use Rattle.piano_words.specs.Items.{joined, itemsOf, sets-next}
+use Rattle.piano_words.specs.Piano.{bitOf, flagWord, flagOf, floatWord, floatOf, hammerWords, hammerOf, motionWords, motionOf, pianoWords, pianoOf}
+use Rattle.piano_words.specs.Back.{flags-length, floats-length, hammer-length}
+
+-- ---- reading
+
+pub first : (w : List ℕ) (at : ℕ) → getD w at 0 ≡ getD (drop at w) 0 0
+first w at = ap (λ (n : ℕ). getD w n 0) (sym (add-zero at)) ∙ sym (getD-drop at w 0 0)
+
+-- word i of a run
+pub in-run : (w : List ℕ) (at i x : ℕ) → x ≡ getD w (at + i) 0 → x ≡ getD (drop (1 * i) (drop at w)) 0 0
+in-run w at i x e =
+    let n : at + i ≡ at + 1 * i = omega arith in
+    e ∙ ap (λ (m : ℕ). getD w m 0) n ∙ first w (at + 1 * i) ∙ ap (λ (l : List ℕ). getD l 0 0) (sym (drop-drop (1 * i) at w))
+
+module _ (w : List ℕ) (at : ℕ) where
+  module _ (flies key a b : ℕ) (y v : Float) (ef : flies ≡ getD w at 0) (ek : key ≡ getD w (at + 1) 0) (ea : a ≡ getD w (at + 2) 0) (ey : y ≡ ofBits binary64 a)
+      (eb : b ≡ getD w (at + 3) 0) (ev : v ≡ ofBits binary64 b) where
+    hammer-read : cond (eqb flies 1) (Flying key y v) Resting ≡ hammerOf (drop at w)
+    unfolding hammerOf
+    hammer-read = cc (first w at, getD-drop at w 1 0, getD-drop at w 2 0, getD-drop at w 3 0)
+
+    pub hammer-flies : flies ≡ 1 → Flying key y v ≡ hammerOf (drop at w)
+    hammer-flies h = sym (ap (λ (t : Bool). cond t (Flying key y v) Resting) (eq-eqb flies 1 h)) ∙ hammer-read
+
+    pub hammer-rests : (flies ≡ 1 → ⊥) → Resting ≡ hammerOf (drop at w)
+    hammer-rests h = sym (ap (λ (t : Bool). cond t (Flying key y v) Resting) (ne-eqb flies 1 h)) ∙ hammer-read
+
+  pub motion-read : (h : HammerState) (n b : ℕ) (x : Float) → h ≡ hammerOf (drop at w) → n ≡ getD w (at + 4) 0 → b ≡ getD w (at + 5) 0 → x ≡ ofBits binary64 b
+      → record { hammer = h; «contact_samples» = n; «peak_force» = x } ≡ motionOf (drop at w)
+  unfolding motionOf
+  motion-read h n b x eh en eb ex =
+      rw (eh, en, ex, eb, getD-drop at w 4 0, getD-drop at w 5 0)
+
+  pub piano-read : (held hand : List Bool) (damper : List Float) (pedal : ℕ) (m : Motion) → held ≡ itemsOf flagOf 1 16 (drop at w) → hand ≡ itemsOf flagOf 1 16 (drop (at + 16) w)
+      → damper ≡ itemsOf floatOf 1 16 (drop (at + 32) w) → pedal ≡ getD w (at + 48) 0 → m ≡ motionOf (drop (at + 49) w)
+      → record { held = held; «hand_damped» = hand; «damper_r» = damper; pedal = eqb pedal 1; motion = m } ≡ pianoOf (drop at w)
+  unfolding pianoOf
+  piano-read held hand damper pedal m e1 e2 e3 e4 e5 =
+      rw (e1, e2, e3, e4, e5, drop-drop 16 at w, drop-drop 32 at w, drop-drop 48 at w, drop-drop 49 at w, first w (at + 48))
+
+-- ---- writing
+
+pub four-stores : (l l1 l2 l3 l4 : List ℕ) (at a b c d : ℕ) → l1 ≡ set l at a → l2 ≡ set l1 (at + 1) b → l3 ≡ set l2 (at + 2) c → l4 ≡ set l3 (at + 3) d
+    → l4 ≡ sets l at (a ∷ b ∷ c ∷ d ∷ [])
+four-stores l l1 l2 l3 l4 at a b c d e1 e2 e3 e4 =
+    let n1 : at + 1 ≡ suc at = omega arith in
+    let n2 : at + 2 ≡ suc (suc at) = omega arith in
+    let n3 : at + 3 ≡ suc (suc (suc at)) = omega arith in
+    cc
+
+pub flying-stores : (l l1 l2 l3 l4 : List ℕ) (at k a b : ℕ) (y v : Float) → l1 ≡ set l at 1 → l2 ≡ set l1 (at + 1) k → a ≡ toBits binary64 y → l3 ≡ set l2 (at + 2) a
+    → b ≡ toBits binary64 v → l4 ≡ set l3 (at + 3) b → l4 ≡ sets l at (hammerWords (Flying k y v))
+unfolding hammerWords
+flying-stores l l1 l2 l3 l4 at k a b y v e1 e2 ea e3 eb e4 = rw (← ea, ← eb) (four-stores l l1 l2 l3 l4 at 1 k a b e1 e2 e3 e4)
+
+pub motion-stores : (l l1 l2 l3 : List ℕ) (at b : ℕ) (m : Motion) → l1 ≡ sets l at (hammerWords (m .hammer)) → l2 ≡ set l1 (at + 4) (m .«contact_samples») → b ≡ toBits binary64 (m .«peak_force»)
+    → l3 ≡ set l2 (at + 5) b → l3 ≡ sets l at (motionWords m)
+unfolding motionWords
+motion-stores l l1 l2 l3 at b m e1 e2 eb e3 =
+    let h = hammerWords (m .hammer) in
+    let n : at + 4 ≡ at + length h = ap (λ (k : ℕ). at + k) (sym (hammer-length (m .hammer))) in
+    let n5 : at + 5 ≡ suc (at + 4) = omega arith in
+    rw (e3, e2, e1, eb, n5) (sets-next l h (m .«contact_samples» ∷ toBits binary64 (m .«peak_force») ∷ []) at (at + 4) n)
+
+module _ (p : Piano) (h1 : length (p .held) ≡ 16) (h2 : length (p .«hand_damped») ≡ 16) (h3 : length (p .«damper_r») ≡ 16) where
+  pub piano-stores : (l l1 l2 l3 l4 l5 : List ℕ) (at b : ℕ) → l1 ≡ sets l at (joined flagWord (p .held)) → l2 ≡ sets l1 (at + 16) (joined flagWord (p .«hand_damped»))
+      → l3 ≡ sets l2 (at + 32) (joined floatWord (p .«damper_r»)) → b ≡ bitOf (p .pedal) → l4 ≡ set l3 (at + 48) b → l5 ≡ sets l4 (at + 49) (motionWords (p .motion))
+      → l5 ≡ sets l at (pianoWords p)
+  unfolding pianoWords
+  piano-stores l l1 l2 l3 l4 l5 at b e1 e2 e3 eb e4 e5 =
+      let x1 = joined flagWord (p .held) in
+      let x2 = joined flagWord (p .«hand_damped») in
+      let x3 = joined floatWord (p .«damper_r») in
+      let x4 = bitOf (p .pedal) ∷ motionWords (p .motion) in
+      let n1 = flags-length (p .held) in
+      let n2 = flags-length (p .«hand_damped») in
+      let n3 = floats-length (p .«damper_r») in
+      let m : at + 49 ≡ suc (at + 48) = omega arith in
+      let last : l5 ≡ sets l3 (at + 48) x4 = rw (e5, e4, eb, m) in
+      last
+      ∙ ap (λ (v : List ℕ). sets v (at + 48) x4) e3
+      ∙ sets-next l2 x3 x4 (at + 32) (at + 48) (omega arith)
+      ∙ ap (λ (v : List ℕ). sets v (at + 32) (x3 ++ x4)) e2
+      ∙ sets-next l1 x2 (x3 ++ x4) (at + 16) (at + 32) (omega arith)
+      ∙ ap (λ (v : List ℕ). sets v (at + 16) (x2 ++ (x3 ++ x4))) e1
+      ∙ sets-next l x1 (x2 ++ (x3 ++ x4)) at (at + 16) (omega arith)

@@ -1,0 +1,141 @@
+-- What a function stores or reads of a session, over plain words. Assumes nothing.
+use mathlib.Core.Path.{_≡_, refl, sym, ap, _∙_}
+use mathlib.Core.Bool.{Bool, true, false, true≢false, false≢true, cond, _&&_}
+use mathlib.Core.List.{List, [], _∷_, _++_}
+use Prim.Native.Nat.{ℕ, suc, _+_, _*_, _%_, _≤_}
+use native.Mathlib.Omega.{arith}
+use lib.Dec.{eqb, leb}
+use lib.Ieee.{Float, binary64, ofBits, toBits}
+use lib.ListN.{length, getD, drop, set}
+use lib.Seq.{sets, getD-drop, drop-drop}
+use borrow.Author.Tests.{eq-eqb, ne-eqb}
+use Rattle.counting.specs.Below.{allBelow}
+use Rattle.score.specs.declared.Event.{Event}
+use Rattle.score.specs.declared.Event.the-variants.{NoteOn, NoteOff, Pedal, HandDamp}
+use Rattle.score.specs.declared.TimedEvent.{TimedEvent}
+use Rattle.score.specs.declared.Piano.{Piano}
+use Rattle.cues.specs.declared.Cue.{Cue}
+use Rattle.session_record.specs.declared.Session.{Session}
+use Rattle.piano_words.specs.Items.{joined, itemsOf, sets-next, sets-whole}
+use Rattle.piano_words.specs.Piano.{bitOf, pianoWords, pianoOf}
+use Rattle.piano_words.proofs.Pieces.{first}
+use Rattle.session_words.specs.declared.Read.{Read}
+use Rattle.session_words.specs.Session.{eventOf, eventWords, timedWords, timedOf, cueWords, cueOf, wordsOf, sessionOf, isSession, readOf, PutMeets}
+use Rattle.session_words.specs.Laws.{FitSession, events-length, cues-length, words-length, session-back, words-are, fit-of}
+
+-- ---- an event by its numbers
+
+module _ (kind key : ℕ) (v : Float) where
+  pub event-0 : kind ≡ 0 → NoteOn (key % 256) v ≡ eventOf kind key v
+  unfolding eventOf
+  event-0 h = rw (eq-eqb kind 0 h)
+
+  pub event-1 : (kind ≡ 0 → ⊥) → kind ≡ 1 → NoteOff (key % 256) ≡ eventOf kind key v
+  unfolding eventOf
+  event-1 a h = rw (ne-eqb kind 0 a, eq-eqb kind 1 h)
+
+  pub event-2 : (kind ≡ 0 → ⊥) → (kind ≡ 1 → ⊥) → kind ≡ 2 → Pedal (eqb key 1) ≡ eventOf kind key v
+  unfolding eventOf
+  event-2 a b h = rw (ne-eqb kind 0 a, ne-eqb kind 1 b, eq-eqb kind 2 h)
+
+  pub event-3 : (kind ≡ 0 → ⊥) → (kind ≡ 1 → ⊥) → (kind ≡ 2 → ⊥) → HandDamp (key % 256) ≡ eventOf kind key v
+  unfolding eventOf
+  event-3 a b h = rw (ne-eqb kind 0 a, ne-eqb kind 1 b, ne-eqb kind 2 h)
+
+-- ---- reading
+
+-- item i of a run
+pub item-at : (w : List ℕ) (a width i : ℕ) → drop (a + width * i) w ≡ drop (width * i) (drop a w)
+item-at w a width i = sym (drop-drop (width * i) a w)
+
+module _ (w : List ℕ) (at : ℕ) where
+  pub timed-read : (q kind key b : ℕ) (v : Float) (e : Event) → q ≡ getD w at 0 → kind ≡ getD w (at + 1) 0 → key ≡ getD w (at + 2) 0 → b ≡ getD w (at + 3) 0 → v ≡ ofBits binary64 b
+      → e ≡ eventOf kind key v → record { position = q; event = e } ≡ timedOf (drop at w)
+  unfolding timedOf
+  timed-read q kind key b v e eq ek ey eb ev ee =
+      rw (eq, ee, ev, ek, ey, eb, first w at, getD-drop at w 1 0, getD-drop at w 2 0, getD-drop at w 3 0)
+
+  pub cue-read : (kept q : ℕ) (p : Piano) → kept ≡ getD w at 0 → q ≡ getD w (at + 1) 0 → p ≡ pianoOf (drop (at + 2) w)
+      → record { kept = eqb kept 1; position = q; piano = p } ≡ cueOf (drop at w)
+  unfolding cueOf
+  cue-read kept q p ek eq ep = rw (ek, eq, ep, first w at, getD-drop at w 1 0, drop-drop 2 at w)
+
+pub session-read : (w : List ℕ) (t count : ℕ) (es : List TimedEvent) (cs : List Cue) (p : Piano) → t ≡ getD w 0 0 → count ≡ getD w 1 0 → es ≡ itemsOf timedOf 4 64 (drop 2 w)
+    → cs ≡ itemsOf cueOf 57 4 (drop 258 w) → p ≡ pianoOf (drop 486 w) → record { t = t; count = count; events = es; cues = cs; piano = p } ≡ sessionOf w
+unfolding sessionOf
+session-read w t count es cs p e1 e2 e3 e4 e5 = rw (e1, e2, e3, e4, e5)
+
+-- ---- writing
+
+pub three-stores : (l l1 l2 l3 : List ℕ) (at a b c : ℕ) → l1 ≡ set l at a → l2 ≡ set l1 (at + 1) b → l3 ≡ set l2 (at + 2) c → l3 ≡ sets l at (a ∷ b ∷ c ∷ [])
+three-stores l l1 l2 l3 at a b c e1 e2 e3 =
+    let n1 : at + 1 ≡ suc at = omega arith in
+    let n2 : at + 2 ≡ suc (suc at) = omega arith in
+    cc
+
+pub timed-stores : (l l1 l2 : List ℕ) (at : ℕ) (e : TimedEvent) → l1 ≡ set l at (e .position) → l2 ≡ sets l1 (at + 1) (eventWords (e .event)) → l2 ≡ sets l at (timedWords e)
+unfolding timedWords
+timed-stores l l1 l2 at e e1 e2 = let n : at + 1 ≡ suc at = omega arith in rw (e2, e1, n)
+
+pub cue-stores : (l l1 l2 l3 : List ℕ) (at b : ℕ) (c : Cue) → b ≡ bitOf (c .kept) → l1 ≡ set l at b → l2 ≡ set l1 (at + 1) (c .position) → l3 ≡ sets l2 (at + 2) (pianoWords (c .piano))
+    → l3 ≡ sets l at (cueWords c)
+unfolding cueWords
+cue-stores l l1 l2 l3 at b c eb e1 e2 e3 =
+    let n1 : at + 1 ≡ suc at = omega arith in
+    let n2 : at + 2 ≡ suc (suc at) = omega arith in
+    rw (e3, e2, e1, eb, n1, n2)
+
+module _ (s : Session) (f : FitSession s) where
+  pub session-stores : (l l1 l2 l3 l4 l5 : List ℕ) → l1 ≡ set l 0 (s .t) → l2 ≡ set l1 1 (s .count) → l3 ≡ sets l2 2 (joined timedWords (s .events))
+      → l4 ≡ sets l3 258 (joined cueWords (s .cues)) → l5 ≡ sets l4 486 (pianoWords (s .piano)) → l5 ≡ sets l 0 (wordsOf s)
+  unfolding wordsOf
+  session-stores l l1 l2 l3 l4 l5 e1 e2 e3 e4 e5 =
+      let x1 = joined timedWords (s .events) in
+      let x2 = joined cueWords (s .cues) in
+      let x3 = pianoWords (s .piano) in
+      let n1 = events-length s f in
+      let n2 = cues-length s f in
+      let base : l2 ≡ set (set l 0 (s .t)) 1 (s .count) = rw (e2, e1) in
+      e5
+      ∙ ap (λ (v : List ℕ). sets v 486 x3) e4
+      ∙ sets-next l3 x2 x3 258 486 (omega arith)
+      ∙ ap (λ (v : List ℕ). sets v 258 (x2 ++ x3)) e3
+      ∙ sets-next l2 x1 (x2 ++ x3) 2 258 (omega arith)
+      ∙ ap (λ (v : List ℕ). sets v 2 (x1 ++ (x2 ++ x3))) base
+
+  module _ (w w′ : List ℕ) where
+    pub put-whole : length w ≡ 541 → w′ ≡ sets w 0 (wordsOf s) → PutMeets s w true w′
+    put-whole h e =
+        let whole : w′ ≡ wordsOf s = e ∙ sets-whole w (wordsOf s) (words-length s f ∙ sym h) in
+        record {
+          answer = sym (eq-eqb (length w) 541 h);
+          writes = λ _. whole;
+          keeps = λ z. absurd (true≢false z);
+          tells = λ _. ap isSession whole ∙ words-are s f;
+          back = λ _. ap sessionOf whole ∙ session-back s f;
+        }
+
+  pub put-none : (w : List ℕ) → (length w ≡ 541 → ⊥) → PutMeets s w false w
+  put-none w h =
+      record {
+        answer = sym (ne-eqb (length w) 541 h);
+        writes = λ z. absurd (false≢true z);
+        keeps = λ _. refl;
+        tells = λ z. absurd (false≢true z);
+        back = λ z. absurd (false≢true z);
+      }
+
+-- ---- the test
+
+module _ (w : List ℕ) (s : Session) (es : s ≡ sessionOf w) where
+  pub read-whole : (l again : List ℕ) (r : Bool) → length w ≡ 541 → length l ≡ 541 → again ≡ sets l 0 (wordsOf s)
+      → r ≡ allBelow 541 (λ i. eqb (getD w i 0) (getD again i 0)) → record { «is_session» = r; session = s } ≡ readOf w
+  unfolding isSession
+  read-whole l again r h k ea er =
+      let a : again ≡ wordsOf (sessionOf w) = ea ∙ sets-whole l (wordsOf s) (ap (λ (z : Session). length (wordsOf z)) es ∙ words-length (sessionOf w) (fit-of w) ∙ sym k) ∙ ap wordsOf es in
+      let t : r ≡ allBelow 541 (λ i. eqb (getD w i 0) (getD (wordsOf (sessionOf w)) i 0)) = er ∙ ap (λ (v : List ℕ). allBelow 541 (λ i. eqb (getD w i 0) (getD v i 0))) a in
+      rw (t, es, eq-eqb (length w) 541 h)
+
+  pub read-none : (length w ≡ 541 → ⊥) → record { «is_session» = false; session = s } ≡ readOf w
+  unfolding isSession
+  read-none h = rw (es, ne-eqb (length w) 541 h)

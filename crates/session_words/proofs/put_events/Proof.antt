@@ -1,0 +1,85 @@
+-- The invariant: the first i are written. Assumes nothing.
+use mathlib.Core.Path.{_≡_, refl, ap, _∙_}
+use Prim.Native.Nat.{_+_, _*_, _-_, _≤_}
+use native.Mathlib.Omega.{arith}
+use lib.ListN.{length, take}
+use lib.Seq.{sets, length-sets}
+use Rattle.piano_words.specs.Items.{joined, joined-turn, joined-end}
+use Rattle.session_words.specs.Session.{timedWords}
+use Rattle.piano_words.specs.Back.{Any, all-any}
+use Rattle.session_words.specs.Laws.{timed-size}
+use borrow.Author.Needs.{needs}
+use Rattle.session_words.proofs.put_events.Statement.{statement}
+use Rattle.session_words.proofs.put_events.Tie as tie
+
+abbrev Inv-loop : tie.InvT-loop
+Inv-loop words₀ events i₀ words i = (i ≤ 64) × (length events ≡ 64) × (words ≡ sets words₀ 2 (joined timedWords (take i events)))
+
+abbrev μ-loop : tie.MeasureT-loop
+μ-loop words₀ events i₀ words i = 64 - i
+
+loop-holds : tie.Need-loop-holds Inv-loop μ-loop
+unfolding joined
+loop-holds c = (omega arith, omega arith, refl)
+
+mul-timed : tie.Need-mul-timed Inv-loop μ-loop
+mul-timed c = search needs
+
+array-copy-out-timed : tie.Need-array-copy-out-timed Inv-loop μ-loop
+array-copy-out-timed c = search needs
+
+mul-put-timed : tie.Need-mul-put-timed Inv-loop μ-loop
+mul-put-timed c = search needs
+
+add-put-timed : tie.Need-add-put-timed Inv-loop μ-loop
+add-put-timed c = search needs
+
+put-timed-requires : tie.Need-put-timed-requires Inv-loop μ-loop
+put-timed-requires c κs = search needs
+
+add-i : tie.Need-add-i Inv-loop μ-loop
+add-i c = search needs
+
+loop-less : tie.Need-loop-less Inv-loop μ-loop
+loop-less c = search needs
+
+loop-again : tie.Need-loop-again Inv-loop μ-loop
+loop-again c =
+    let s = c .before .before .before .before .before .before .before .before in
+    let z = s .args in
+    let l = c .before .before .before .before .before .before .loop in (
+      omega arith,
+      l .inv .1,
+      c .before .before .put-timed .ensures
+          ∙ joined-turn Any timedWords 4 (λ e h. timed-size e) (l .i) (z .t2) _ (z .words .now) (l .words) 2 (2 + 4 * l .i) (all-any (z .t2)) (omega arith) refl (l .inv .2),
+    )
+
+same-length : tie.Need-same-length Inv-loop μ-loop
+same-length c =
+    let l = c .before .loop in
+    let z = c .before .before .before .args in
+    ap length (l .inv .2) ∙ length-sets (z .words .now) 2 (joined timedWords (take (l .i) (z .t2)))
+
+returns : tie.Need-returns Inv-loop μ-loop
+returns c =
+    let l = c .before .loop in
+    let z = c .before .before .before .args in
+    joined-end Any timedWords 4 (λ e h. timed-size e) (l .i) (z .t2) (z .words .now) (l .words) 2 (omega arith) (l .inv .2)
+
+pub put-events-spec : {M : Type 1} → statement M
+put-events-spec =
+    tie.close
+    (tie.spec
+    Inv-loop
+    μ-loop
+    loop-holds
+    mul-timed
+    array-copy-out-timed
+    mul-put-timed
+    add-put-timed
+    put-timed-requires
+    add-i
+    loop-less
+    loop-again
+    same-length
+    returns)

@@ -1,0 +1,45 @@
+use Rattle.session_words.proofs.Pieces.{read-whole, read-none}
+use borrow.Author.Needs.{needs}
+use Rattle.session_words.proofs.session_at.Statement.{statement}
+use Rattle.session_words.proofs.session_at.Tie as tie
+
+session-in-requires : tie.Need-session-in-requires
+session-in-requires c κs = search needs
+
+blank-requires : tie.Need-blank-requires
+blank-requires c κs = search needs
+
+slice-aggregate-put-words : tie.Need-slice-aggregate-put-words
+slice-aggregate-put-words c = search needs
+
+put-words-requires : tie.Need-put-words-requires
+put-words-requires c κs = search needs
+
+slice-aggregate-same : tie.Need-slice-aggregate-same
+slice-aggregate-same c = search needs
+
+same-requires : tie.Need-same-requires
+same-requires c κs = search needs
+
+returns : tie.Need-returns
+returns c =
+    let z = c .before .before .before .before .before .before .before .before .before .args in
+    read-whole (z .words .now) _ (c .before .before .before .before .before .before .before .session-in .ensures) _ _ _ (c .before .before .before .before .before .before .if1 .taken) (c .before .before .before .before .before .blank .ensures) (c .before .before .before .put-words .ensures) (c .same .ensures)
+
+returns-2 : tie.Need-returns-2
+returns-2 c =
+    let z = c .before .before .before .args in
+    read-none (z .words .now) _ (c .before .session-in .ensures) (c .if1 .left)
+
+pub session-at-spec : {M : Type 1} → statement M
+session-at-spec =
+    tie.close
+    (tie.spec
+    session-in-requires
+    blank-requires
+    slice-aggregate-put-words
+    put-words-requires
+    slice-aggregate-same
+    same-requires
+    returns
+    returns-2)

@@ -1,0 +1,175 @@
+-- Every session is read back from its words, and exactly the words that some session has are told to be a session's. `FitSession` says what every value of the record's type has and a
+-- definition alone cannot see. Assumes nothing.
+use mathlib.Core.Path.{_≡_, refl, sym, ap, _∙_}
+use mathlib.Core.Bool.{Bool, true, false, cond, _&&_}
+use mathlib.Core.List.{List, [], _∷_, _++_, append-nil}
+use Prim.Native.Nat.{ℕ, zero, suc, _+_, _*_, _%_, _<_}
+use native.Mathlib.Omega.{arith}
+use lib.Dec.{T, eqb}
+use lib.Ieee.{Float, binary64, fits, ofBits, toBits}
+use lib.Ieee.Bits.{ofBits-toBits, ofBits-fits}
+use lib.ListN.{length, getD, drop, length-append}
+use lib.Seq.{drop-at, drop-drop, ext-getD}
+use borrow.Author.Tests.{eq-eqb, eqb-true}
+use Rattle.counting.specs.Every.{and-left, and-right}
+use Rattle.counting.specs.Below.{allBelow}
+use Rattle.counting.specs.Laws.{all-build, all-at}
+use Rattle.score.specs.declared.Event.{Event}
+use Rattle.score.specs.declared.Event.the-variants.{NoteOn, NoteOff, Pedal, HandDamp}
+use Rattle.score.specs.declared.TimedEvent.{TimedEvent}
+use Rattle.cues.specs.declared.Cue.{Cue}
+use Rattle.session_record.specs.declared.Session.{Session}
+use Rattle.piano_words.specs.Items.{joined, itemsOf, AllOf, joined-length, items-back, items-length, all-items}
+use Rattle.piano_words.specs.Piano.{bitOf, flagWord, pianoWords, pianoOf}
+use Rattle.piano_words.specs.Back.{Fit, FitPiano, flag-back, piano-length, piano-back, fit-piano-of}
+use Rattle.session_words.specs.Session.{eventOf, eventWords, timedWords, timedOf, cueWords, cueOf, wordsOf, sessionOf, isSession}
+
+unfoldable pub FitEvent : Event → Type 0
+FitEvent (NoteOn k v) = (k < 256) × Fit v
+FitEvent (NoteOff k) = k < 256
+FitEvent (Pedal d) = Unit {0}
+FitEvent (HandDamp k) = k < 256
+
+abbrev pub FitTimed : TimedEvent → Type 0
+FitTimed e = FitEvent (e .event)
+
+abbrev pub FitCue : Cue → Type 0
+FitCue c = FitPiano (c .piano)
+
+pub record FitSession (s : Session) : Type 0 where
+  pub eventsLong : length (s .events) ≡ 64
+  pub events : AllOf FitTimed (s .events)
+  pub cuesLong : length (s .cues) ≡ 4
+  pub cues : AllOf FitCue (s .cues)
+  pub piano : FitPiano (s .piano)
+
+-- ---- the pieces
+
+event-length : (e : Event) → length (eventWords e) ≡ 3
+unfolding eventWords
+event-length (NoteOn k v) = refl
+event-length (NoteOff k) = refl
+event-length (Pedal d) = refl
+event-length (HandDamp k) = refl
+
+pub timed-size : (e : TimedEvent) → length (timedWords e) ≡ 4
+unfolding timedWords
+timed-size e = ap suc (event-length (e .event))
+
+pub cue-length : (c : Cue) → FitCue c → length (cueWords c) ≡ 57
+unfolding cueWords
+cue-length c f = ap (λ (n : ℕ). suc (suc n)) (piano-length (c .piano) f)
+
+below-256 : (k : ℕ) → k < 256 → k % 256 ≡ k
+below-256 k h = omega arith
+
+module _ (q : ℕ) (r : List ℕ) where
+  event-back : (e : Event) → FitEvent e → timedOf (q ∷ (eventWords e ++ r)) ≡ record { position = q; event = e }
+  unfolding timedOf eventWords eventOf FitEvent
+  event-back (NoteOn k v) f = rw (below-256 k (f .0), ofBits-toBits binary64 v (f .1))
+  event-back (NoteOff k) f = rw (below-256 k f)
+  event-back (Pedal d) f = rw (flag-back d tt [])
+  event-back (HandDamp k) f = rw (below-256 k f)
+
+timed-back : (e : TimedEvent) → FitTimed e → (r : List ℕ) → timedOf (timedWords e ++ r) ≡ e
+unfolding timedWords
+timed-back e f r = event-back (e .position) r (e .event) f
+
+cue-back : (c : Cue) → FitCue c → (r : List ℕ) → cueOf (cueWords c ++ r) ≡ c
+unfolding cueWords cueOf
+cue-back c f r = rw (flag-back (c .kept) tt [], piano-back (c .piano) f r)
+
+-- ---- the session
+
+module _ (s : Session) (f : FitSession s) where
+  abbrev x1 : List ℕ
+  x1 = joined timedWords (s .events)
+
+  abbrev x2 : List ℕ
+  x2 = joined cueWords (s .cues)
+
+  abbrev x3 : List ℕ
+  x3 = pianoWords (s .piano)
+
+  pub events-length : length x1 ≡ 256
+  events-length = joined-length FitTimed timedWords 4 (λ e h. timed-size e) (s .events) (f .events) ∙ ap (λ (n : ℕ). 4 * n) (f .eventsLong)
+
+  pub cues-length : length x2 ≡ 228
+  cues-length = joined-length FitCue cueWords 57 cue-length (s .cues) (f .cues) ∙ ap (λ (n : ℕ). 57 * n) (f .cuesLong)
+
+  pub words-length : length (wordsOf s) ≡ 541
+  unfolding wordsOf
+  words-length =
+      let n1 = events-length in
+      let n2 = cues-length in
+      let n3 = piano-length (s .piano) (f .piano) in
+      let l2 = length-append x2 x3 in
+      let l1 = length-append x1 (x2 ++ x3) in
+      omega arith
+
+  -- THE LAW: a session is read back from its words
+  pub session-back : sessionOf (wordsOf s) ≡ s
+  unfolding sessionOf wordsOf
+  session-back =
+      let w = s .t ∷ s .count ∷ (x1 ++ (x2 ++ x3)) in
+      let e1 : drop 2 w ≡ x1 ++ (x2 ++ x3) = refl in
+      let e2 : drop 258 w ≡ x2 ++ x3 = sym (drop-drop 256 2 w) ∙ drop-at x1 (x2 ++ x3) 256 events-length in
+      let e3 : drop 486 w ≡ x3 = sym (drop-drop 228 258 w) ∙ ap (drop 228) e2 ∙ drop-at x2 x3 228 cues-length in
+      let h1 : itemsOf timedOf 4 64 (drop 2 w) ≡ s .events =
+      ap (λ (n : ℕ). itemsOf timedOf 4 n (x1 ++ (x2 ++ x3))) (sym (f .eventsLong))
+      ∙ items-back FitTimed timedWords 4 (λ e h. timed-size e) timedOf timed-back (s .events) (f .events) (x2 ++ x3) in
+      let h2 : itemsOf cueOf 57 4 (drop 258 w) ≡ s .cues =
+      ap (itemsOf cueOf 57 4) e2 ∙ ap (λ (n : ℕ). itemsOf cueOf 57 n (x2 ++ x3)) (sym (f .cuesLong))
+      ∙ items-back FitCue cueWords 57 cue-length cueOf cue-back (s .cues) (f .cues) x3 in
+      let h3 : pianoOf (drop 486 w) ≡ s .piano = ap pianoOf (e3 ∙ sym (append-nil x3)) ∙ piano-back (s .piano) (f .piano) [] in
+      rw (h1, h2, h3)
+
+  -- a session's words are told to be one's
+  pub words-are : isSession (wordsOf s) ≡ true
+  unfolding isSession
+  words-are =
+      rw (eq-eqb (length (wordsOf s)) 541 words-length)
+      (all-build 541 (λ i. eqb (getD (wordsOf s) i 0) (getD (wordsOf (sessionOf (wordsOf s))) i 0))
+      (λ i h. eq-eqb (getD (wordsOf s) i 0) (getD (wordsOf (sessionOf (wordsOf s))) i 0) (ap (λ (z : Session). getD (wordsOf z) i 0) (sym session-back))))
+
+-- ---- whatever the words are, what is read from them is a value of the type
+
+byte-of : (k : ℕ) → k % 256 < 256
+byte-of k = omega arith
+
+fit-event-of : (a b c : Bool) (k : ℕ) (p : Bool) (v : Float) → Fit v
+    → FitEvent (cond a (NoteOn (k % 256) v) (cond b (NoteOff (k % 256)) (cond c (Pedal p) (HandDamp (k % 256)))))
+unfolding FitEvent
+fit-event-of true b c k p v f = (byte-of k, f)
+fit-event-of false true c k p v f = byte-of k
+fit-event-of false false true k p v f = tt
+fit-event-of false false false k p v f = byte-of k
+
+fit-timed-of : (w : List ℕ) → FitTimed (timedOf w)
+unfolding timedOf eventOf
+fit-timed-of w =
+    fit-event-of (eqb (getD w 1 0) 0) (eqb (getD w 1 0) 1) (eqb (getD w 1 0) 2) (getD w 2 0) (eqb (getD w 2 0) 1) (ofBits binary64 (getD w 3 0)) (ofBits-fits binary64 (getD w 3 0))
+
+fit-cue-of : (w : List ℕ) → FitCue (cueOf w)
+unfolding cueOf
+fit-cue-of w = fit-piano-of (drop 2 w)
+
+pub fit-of : (w : List ℕ) → FitSession (sessionOf w)
+unfolding sessionOf
+fit-of w =
+    record {
+      eventsLong = items-length timedOf 4 64 (drop 2 w);
+      events = all-items FitTimed timedOf fit-timed-of 4 64 (drop 2 w);
+      cuesLong = items-length cueOf 57 4 (drop 258 w);
+      cues = all-items FitCue cueOf fit-cue-of 57 4 (drop 258 w);
+      piano = fit-piano-of (drop 486 w);
+    }
+
+-- THE LAW: words that are told to be a session's are those of the session read from them
+pub are-words : (w : List ℕ) → isSession w ≡ true → wordsOf (sessionOf w) ≡ w
+unfolding isSession
+are-words w h =
+    let here : length w ≡ 541 = eqb-true (length w) 541 (and-left (eqb (length w) 541) _ h) in
+    let there = words-length (sessionOf w) (fit-of w) in
+    let each = all-at (λ i. eqb (getD w i 0) (getD (wordsOf (sessionOf w)) i 0)) 541 (and-right (eqb (length w) 541) _ h) in
+    ext-getD 0 (wordsOf (sessionOf w)) w (there ∙ sym here) (λ i k. sym (eqb-true (getD w i 0) (getD (wordsOf (sessionOf w)) i 0) (each i (omega (arith, there)))))
