@@ -1,0 +1,169 @@
+-- What each return of a call from C or Rust gives, over plain values. Assumes nothing.
+use mathlib.Core.Path.{_≡_, refl, sym, ap, _∙_, subst}
+use mathlib.Core.Bool.{Bool, true, false, true≢false, false≢true}
+use mathlib.Core.List.{List}
+use Prim.Native.Nat.{ℕ, _*_, _≤_}
+use native.Mathlib.Omega.{arith}
+use lib.Dec.{eqb}
+use lib.Ieee.{Float, binary64, ofBits}
+use lib.ListN.{length}
+use borrow.Author.Tests.{eq-eqb, ne-eqb, eqb-true}
+use Rattle.counting.specs.Every.{and-left}
+use Rattle.instrument.specs.declared.Instrument.{Instrument}
+use Rattle.instrument.specs.declared.ReadAnswer.{ReadAnswer}
+use Rattle.instrument.specs.File.{readOf, accepted}
+use Rattle.instrument.specs.Valid.{valid}
+use Rattle.instrument.specs.ValidLaws.{valid-counts}
+use Rattle.instrument.specs.Work.{cellsOf}
+use Rattle.encoding.specs.Accepted.{accepted-valid}
+use Rattle.session_record.specs.declared.Session.{Session}
+use Rattle.session.specs.declared.Outcome.{Outcome}
+use Rattle.session.specs.Calls.{OpenMeets}
+use Rattle.session_words.specs.declared.Read.{Read}
+use Rattle.session_words.specs.Session as W
+use Rattle.session_words.specs.Session.{wordsOf, sessionOf, isSession, isEvent, PutMeets}
+use Rattle.gingerfile.specs.declared.Reply.{Reply}
+use Rattle.gingerfile.specs.declared.Sizes.{Sizes}
+use Rattle.gingerfile.specs.Crossing.{refusedBy, replyOf, sizesOf, Keeps, Crosses, InsertCrosses, Opens, OpenCrosses}
+
+-- ---- the file
+
+module _ (f : List ℕ) (g : ReadAnswer) (eg : g ≡ readOf f) where
+  was : (readOf f .refusal ≡ 0) → g .refusal ≡ 0
+  was h = ap (λ (x : ReadAnswer). x .refusal) eg ∙ h
+
+  now-is : g .refusal ≡ 0 → readOf f .refusal ≡ 0
+  now-is h = sym (ap (λ (x : ReadAnswer). x .refusal) eg) ∙ h
+
+  pub few-strings : g .refusal ≡ 0 → g .instrument .«string_count» ≤ 32
+  few-strings h =
+      let e : readOf f ≡ accepted (g .instrument) = sym eg ∙ ap (λ (n : ℕ). record { refusal = n; instrument = g .instrument }) h in
+      valid-counts (g .instrument) (accepted-valid f (g .instrument) e) .fewStrings
+
+  pub sizes-refused : (n : ℕ) (x : Float) → (g .refusal ≡ 0 → ⊥) → n ≡ g .refusal → x ≡ ofBits binary64 0
+      → record { refusal = n; fs = x; keys = 0; strings = 0; words = 0; work = 0; scratch = 0 } ≡ sizesOf (readOf f)
+  unfolding sizesOf
+  sizes-refused n x h e k = rw (← eg, ne-eqb (g .refusal) 0 h, e, k)
+
+  pub sizes-given : (work : ℕ) → g .refusal ≡ 0 → work ≡ 5 * cellsOf (g .instrument)
+      → record {
+        refusal = 0;
+        fs = g .instrument .common .fs;
+        keys = g .instrument .«key_count»;
+        strings = g .instrument .«string_count»;
+        words = 541;
+        work = work;
+        scratch = 6 * g .instrument .«string_count»;
+      } ≡ sizesOf (readOf f)
+  unfolding sizesOf
+  sizes-given work h e = rw (← eg, eq-eqb (g .refusal) 0 h, e)
+
+-- ---- the words
+
+pub session-long : (w : List ℕ) (rd : Read) → rd ≡ W.readOf w → rd .«is_session» ≡ true → length w ≡ 541
+unfolding isSession
+session-long w rd e h = eqb-true (length w) 541 (and-left (eqb (length w) 541) _ (sym (ap (λ (x : Read). x .«is_session») e) ∙ h))
+
+pub keeps-whole : (o : Outcome) (w w′ : List ℕ) (t : Bool) (r : Reply) → length w ≡ 541 → PutMeets (o .session) w t w′ → r ≡ replyOf (o .answer) → Keeps o r w′
+keeps-whole o w w′ t r h p e = record { reply = e; words = p .writes (p .answer ∙ eq-eqb (length w) 541 h) }
+
+-- ---- a call
+
+module _ (f w : List ℕ) (Same : Type 0) (Meets : Instrument → Session → Outcome → Type 0) (g : ReadAnswer) (eg : g ≡ readOf f) where
+  pub crosses-file : (g .refusal ≡ 0 → ⊥) → (n : ℕ) (r : Reply) → n ≡ g .refusal → r ≡ refusedBy n → Same → Crosses f w r w Same Meets
+  crosses-file h n r en er same =
+      record {
+        file = λ _. (er ∙ ap refusedBy (en ∙ ap (λ (x : ReadAnswer). x .refusal) eg), refl, same);
+        record7 = λ z _. absurd (h (was f g eg z));
+        calls = λ z _. absurd (h (was f g eg z));
+      }
+
+  module _ (h : g .refusal ≡ 0) (rd : Read) (ed : rd ≡ W.readOf w) where
+    pub crosses-record : rd .«is_session» ≡ false → (r : Reply) → r ≡ refusedBy 7 → Same → Crosses f w r w Same Meets
+    crosses-record k r er same =
+        record {
+          file = λ z. absurd (z (now-is f g eg h));
+          record7 = λ _ _. (er, refl, same);
+          calls = λ _ z. absurd (true≢false (sym z ∙ sym (ap (λ (x : Read). x .«is_session») ed) ∙ k));
+        }
+
+    pub crosses-call : rd .«is_session» ≡ true → (r : Reply) (w′ : List ℕ) (o : Outcome) → Meets (g .instrument) (rd .session) o → Keeps o r w′ → Crosses f w r w′ Same Meets
+    crosses-call k r w′ o m keeps =
+        record {
+          file = λ z. absurd (z (now-is f g eg h));
+          record7 = λ _ z. absurd (false≢true (sym z ∙ sym (ap (λ (x : Read). x .«is_session») ed) ∙ k));
+          calls = λ _ _. record {
+            outcome = o;
+            meets = subst (λ (x : ReadAnswer). Meets (x .instrument) (sessionOf w) o) eg (subst (λ (x : Read). Meets (g .instrument) (x .session) o) ed m);
+            keeps = keeps;
+          };
+        }
+
+-- ---- insert, whose event is numbers too
+
+module _ (kind key : ℕ) (f w : List ℕ) (Same : Type 0) (Meets : Instrument → Session → Outcome → Type 0) (g : ReadAnswer) (eg : g ≡ readOf f) where
+  pub insert-file : (g .refusal ≡ 0 → ⊥) → (n : ℕ) (r : Reply) → n ≡ g .refusal → r ≡ refusedBy n → Same → InsertCrosses kind key f w r w Same Meets
+  insert-file h n r en er same =
+      let c = crosses-file f w Same Meets g eg h n r en er same in
+      record { none = λ _ z. absurd (h (was f g eg z)); event = λ _. c; file = c .file }
+
+  module _ (h : g .refusal ≡ 0) where
+    pub insert-none : (t : Bool) → t ≡ isEvent kind key → t ≡ false → (r : Reply) → r ≡ refusedBy 7 → Same → InsertCrosses kind key f w r w Same Meets
+    insert-none t et k r er same =
+        record {
+          none = λ _ _. (er, refl, same);
+          event = λ z. absurd (true≢false (sym z ∙ sym et ∙ k));
+          file = λ z. absurd (z (now-is f g eg h));
+        }
+
+    pub insert-record : (rd : Read) → rd ≡ W.readOf w → rd .«is_session» ≡ false → (r : Reply) → r ≡ refusedBy 7 → Same → InsertCrosses kind key f w r w Same Meets
+    insert-record rd ed k r er same =
+        let c = crosses-record f w Same Meets g eg h rd ed k r er same in
+        record { none = λ _ _. (er, refl, same); event = λ _. c; file = c .file }
+
+    pub insert-call : (t : Bool) → t ≡ isEvent kind key → t ≡ true → (rd : Read) → rd ≡ W.readOf w → rd .«is_session» ≡ true → (r : Reply) (w′ : List ℕ) (o : Outcome)
+        → Meets (g .instrument) (rd .session) o → Keeps o r w′ → InsertCrosses kind key f w r w′ Same Meets
+    insert-call t et k rd ed l r w′ o m keeps =
+        let c = crosses-call f w Same Meets g eg h rd ed l r w′ o m keeps in
+        record { none = λ z _. absurd (true≢false (sym k ∙ et ∙ z)); event = λ _. c; file = c .file }
+
+-- ---- open
+
+module _ (f w : List ℕ) (work : List Float) (g : ReadAnswer) (eg : g ≡ readOf f) where
+  pub open-file : (g .refusal ≡ 0 → ⊥) → (n : ℕ) (r : Reply) → n ≡ g .refusal → r ≡ refusedBy n → OpenCrosses f w work r w work
+  open-file h n r en er =
+      record {
+        file = λ _. (er ∙ ap refusedBy (en ∙ ap (λ (x : ReadAnswer). x .refusal) eg), refl, refl);
+        record7 = λ z _. absurd (h (was f g eg z));
+        opens = λ z _. absurd (h (was f g eg z));
+      }
+
+  module _ (h : g .refusal ≡ 0) where
+    pub open-record : (length w ≡ 541 → ⊥) → (r : Reply) → r ≡ refusedBy 7 → OpenCrosses f w work r w work
+    open-record k r er =
+        record {
+          file = λ z. absurd (z (now-is f g eg h));
+          record7 = λ _ _. (er, refl, refl);
+          opens = λ _ z. absurd (k z);
+        }
+
+    module _ (k : length w ≡ 541) (work′ : List Float) (o : Outcome) (m : OpenMeets (g .instrument) work o work′) (r : Reply) (er : r ≡ replyOf (o .answer)) where
+      opened : (w′ : List ℕ) → (r .refusal ≡ 0 → w′ ≡ wordsOf (o .session)) → ((r .refusal ≡ 0 → ⊥) → w′ ≡ w) → OpenCrosses f w work r w′ work′
+      opened w′ a b =
+          record {
+            file = λ z. absurd (z (now-is f g eg h));
+            record7 = λ _ z. absurd (z k);
+            opens = λ _ _. record {
+              outcome = o;
+              meets = subst (λ (x : ReadAnswer). OpenMeets (x .instrument) work o work′) eg m;
+              reply = er;
+              words = a;
+              keeps = b;
+            };
+          }
+
+      pub open-refuses : (r .refusal ≡ 0 → ⊥) → OpenCrosses f w work r w work′
+      open-refuses z = opened w (λ e. absurd (z e)) (λ _. refl)
+
+      pub open-accepts : (q : Reply) (w′ : List ℕ) → r .refusal ≡ 0 → Keeps o q w′ → OpenCrosses f w work q w′ work′
+      open-accepts q w′ z keeps = subst (λ (x : Reply). OpenCrosses f w work x w′ work′) (er ∙ sym (keeps .reply)) (opened w′ (λ _. keeps .words) (λ e. absurd (e z)))

@@ -1,0 +1,69 @@
+-- A refused call changes no word. Assumes nothing.
+use mathlib.Core.Path.{_≡_, refl, sym, ap, _∙_}
+use mathlib.Core.Bool.{Bool, true, false}
+use mathlib.Core.List.{List}
+use Prim.Native.Nat.{ℕ}
+use native.Mathlib.Omega.{arith}
+use lib.Dec.{eqb}
+use lib.Ieee.{Float}
+use lib.ListN.{length}
+use borrow.Author.Tests.{eqb-true, eqb-false}
+use Rattle.instrument.specs.declared.Instrument.{Instrument}
+use Rattle.instrument.specs.File.{readOf}
+use Rattle.score.specs.declared.TimedEvent.{TimedEvent}
+use Rattle.session_record.specs.declared.Session.{Session}
+use Rattle.session.specs.declared.Answer.{Answer}
+use Rattle.session.specs.declared.Answer.the-variants.{Refused, Opened, Played, Cued, Went, Edited}
+use Rattle.session.specs.declared.Outcome.{Outcome}
+use Rattle.session.specs.Calls.{refusedWith, PlayMeets, CueMeets, GoMeets, InsertMeets, RemoveMeets}
+use Rattle.session_words.specs.Session.{wordsOf, sessionOf, isSession}
+use Rattle.session_words.specs.Laws.{are-words}
+use Rattle.gingerfile.specs.declared.Reply.{Reply}
+use Rattle.gingerfile.specs.Crossing.{replyOf, Keeps, Called, Crosses}
+
+-- a call that is refused, by a number other than 0, leaves the session; one that is accepted answers a
+stays : (n : ℕ) (s : Session) (o : Outcome) (a : Answer) → ((n ≡ 0 → ⊥) → o ≡ refusedWith s n) → (n ≡ 0 → o .answer ≡ a) → replyOf a .refusal ≡ 0
+    → (replyOf (o .answer) .refusal ≡ 0 → ⊥) → o .session ≡ s
+stays n s o a refuses accepts zero not = go (eqb n 0) refl
+  where
+    go : (t : Bool) → eqb n 0 ≡ t → o .session ≡ s
+    go true e = absurd (not (ap (λ (x : Answer). replyOf x .refusal) (accepts (eqb-true n 0 e)) ∙ zero))
+    go false e = ap (λ (x : Outcome). x .session) (refuses (eqb-false n 0 e))
+
+module _ (i : Instrument) (s : Session) (o : Outcome) where
+  -- a refused call leaves the session
+  abbrev pub Stays : Type 0
+  Stays = (replyOf (o .answer) .refusal ≡ 0 → ⊥) → o .session ≡ s
+
+  pub play-stays : (work : List Float) (scratch : ℕ) (out trace work′ out′ trace′ : List Float) → PlayMeets i s work scratch out trace o work′ out′ trace′ → Stays
+  unfolding replyOf
+  play-stays work scratch out trace work′ out′ trace′ m = stays _ s o _ (λ h. m .refuses h .0) (λ h. m .accepts h .answer) refl
+
+  pub cue-stays : (work work′ : List Float) → CueMeets i s work o work′ → Stays
+  unfolding replyOf
+  cue-stays work work′ m = stays _ s o _ (λ h. m .refuses h .0) (λ h. m .accepts h .answer) refl
+
+  pub go-stays : (work : List Float) (scratch p : ℕ) (work′ : List Float) → GoMeets i s work scratch p o work′ → Stays
+  unfolding replyOf
+  go-stays work scratch p work′ m = stays _ s o _ (λ h. m .refuses h .0) (λ h. m .accepts h .answer) refl
+
+  pub insert-stays : (work : List Float) (e : TimedEvent) (work′ : List Float) → InsertMeets i s work e o work′ → Stays
+  unfolding replyOf
+  insert-stays work e work′ m = stays _ s o _ (λ h. m .refuses h .0) (λ h. m .accepts h .answer) refl
+
+  pub remove-stays : (work : List Float) (index : ℕ) (work′ : List Float) → RemoveMeets i s work index o work′ → Stays
+  unfolding replyOf
+  remove-stays work index work′ m = stays _ s o _ (λ h. m .refuses h .0) (λ h. m .accepts h .answer) refl
+
+-- THE LAW: a refused call changes no word
+pub words-stay : (f w : List ℕ) (r : Reply) (w′ : List ℕ) (Same : Type 0) (Meets : Instrument → Session → Outcome → Type 0)
+    → ((i : Instrument) (s : Session) (o : Outcome) → Meets i s o → Stays i s o) → Crosses f w r w′ Same Meets → (r .refusal ≡ 0 → ⊥) → w′ ≡ w
+words-stay f w r w′ Same Meets call c not = go (eqb (readOf f .refusal) 0) refl (isSession w) refl
+  where
+    go : (t : Bool) → eqb (readOf f .refusal) 0 ≡ t → (u : Bool) → isSession w ≡ u → w′ ≡ w
+    go false e u k = c .file (eqb-false (readOf f .refusal) 0 e) .1
+    go true e false k = c .record7 (eqb-true (readOf f .refusal) 0 e) k .1
+    go true e true k =
+        let made = c .calls (eqb-true (readOf f .refusal) 0 e) k in
+        let same = call (readOf f .instrument) (sessionOf w) (made .outcome) (made .meets) (λ z. not (ap (λ (x : Reply). x .refusal) (made .keeps .reply) ∙ z)) in
+        made .keeps .words ∙ ap wordsOf same ∙ are-words w k

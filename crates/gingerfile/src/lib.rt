@@ -1,0 +1,271 @@
+// The piano for a program in C or Rust: numbers and lent slices alone cross. The instrument crosses as its file's bytes, the session as 541 words (crate session_words), an event by its
+// numbers. Each call reads the file and the words, makes the session's call, and writes the words; a refused call changes nothing, the words neither.
+ghost use mathlib.Core.Path.{_≡_};
+ghost use Prim.Native.Nat.{_+_, _*_, _≤_};
+ghost use lib.ListN.{length};
+ghost use Rattle.instrument.specs.File.{readOf};
+ghost use Rattle.session.specs.Calls.{PlayMeets, CueMeets, GoMeets, InsertMeets, RemoveMeets};
+ghost use Rattle.session_words.specs.Session.{eventOf};
+ghost use Rattle.gingerfile.specs.Crossing.{refusedBy, replyOf, sizesOf, Keeps, Crosses, OpenCrosses, InsertCrosses};
+use score::TimedEvent;
+use session::Answer;
+use session::Outcome;
+
+// What a call answers: the refusal's number, 0 for none; play's number of forces, go's number of samples or an edit's t; and an edit's number of cues dropped.
+#[repr(C)]
+pub struct Reply {
+    pub refusal: u64,
+    pub value: u64,
+    pub dropped: u64,
+}
+
+// What a file asks of its player: the refusal's number, 0 for none; samples a second; keys and strings; words of a session, cells of work memory and of scratch.
+#[repr(C)]
+pub struct Sizes {
+    pub refusal: u64,
+    pub fs: f64,
+    pub keys: usize,
+    pub strings: usize,
+    pub words: usize,
+    pub work: usize,
+    pub scratch: usize,
+}
+
+const RECORD: u64 = 7;
+
+fn refused(number: u64) -> Reply
+    ensures { λ r. ⌜ r ≡ refusedBy number ⌝ }
+{
+    Reply {
+        refusal: number,
+        value: 0,
+        dropped: 0,
+    }
+}
+
+fn reply_of(answer: Answer) -> Reply
+    ensures { λ r. ⌜ r ≡ replyOf answer ⌝ }
+{
+    match answer {
+        Answer::Refused(number) => Reply {
+            refusal: number,
+            value: 0,
+            dropped: 0,
+        },
+        Answer::Opened => Reply {
+            refusal: 0,
+            value: 0,
+            dropped: 0,
+        },
+        Answer::Played(k) => Reply {
+            refusal: 0,
+            value: k as u64,
+            dropped: 0,
+        },
+        Answer::Cued => Reply {
+            refusal: 0,
+            value: 0,
+            dropped: 0,
+        },
+        Answer::Went(number) => Reply {
+            refusal: 0,
+            value: number,
+            dropped: 0,
+        },
+        Answer::Edited { t, dropped } => Reply {
+            refusal: 0,
+            value: t,
+            dropped,
+        },
+    }
+}
+
+// The session after a call is written over the one before it.
+fn keep(words: &mut [u64], outcome: Outcome) -> Reply
+    requires { ⌜ length (now words) ≡ 541 ⌝ }
+    ensures { λ r. ⌜ Keeps outcome r (now (words .exit)) ⌝ }
+{
+    let session = outcome.session;
+    let answer = outcome.answer;
+    session_words::put_session(words, session);
+    reply_of(answer)
+}
+
+#[no_mangle]
+pub extern "C" fn gingerfile_read(file: &[u8]) -> Sizes
+    ensures { λ r. ⌜ r ≡ sizesOf (readOf (now (file .entry))) ⌝ }
+{
+    let given = instrument::read(file);
+    let instrument = given.instrument;
+    let common = instrument.common;
+    if given.refusal != 0 {
+        return Sizes {
+            refusal: given.refusal as u64,
+            fs: 0.0,
+            keys: 0,
+            strings: 0,
+            words: 0,
+            work: 0,
+            scratch: 0,
+        };
+    }
+    let work = instrument::work_cells(instrument);
+    Sizes {
+        refusal: 0,
+        fs: common.fs,
+        keys: instrument.key_count,
+        strings: instrument.string_count,
+        words: session_words::LENGTH,
+        work,
+        scratch: 6 * instrument.string_count,
+    }
+}
+
+#[no_mangle]
+pub extern "C" fn gingerfile_open(file: &[u8], words: &mut [u64], work: &mut [f64]) -> Reply
+    ensures { λ r. ⌜ OpenCrosses (now (file .entry)) (now (words .entry)) (now (work .entry)) r (now (words .exit)) (now (work .exit)) ⌝ }
+{
+    let given = instrument::read(file);
+    if given.refusal != 0 {
+        return refused(given.refusal as u64);
+    }
+    if words.len() == session_words::LENGTH {
+        let instrument = given.instrument;
+        let outcome = session::open(instrument, work);
+        let answer = outcome.answer;
+        let reply = reply_of(answer);
+        if reply.refusal != 0 {
+            return reply;
+        }
+        return keep(words, outcome);
+    }
+    refused(RECORD)
+}
+
+#[no_mangle]
+pub extern "C" fn gingerfile_play(
+    file: &[u8],
+    words: &mut [u64],
+    work: &mut [f64],
+    scratch: &mut [f64],
+    out: &mut [f64],
+    trace: &mut [f64],
+) -> Reply
+    ensures { λ r. ⌜ Crosses (now (file .entry)) (now (words .entry)) r (now (words .exit))
+        ((now (work .exit) ≡ now (work .entry)) × (now (out .exit) ≡ now (out .entry)) × (now (trace .exit) ≡ now (trace .entry)))
+        (λ i s o. PlayMeets i s (now (work .entry)) (length (now (scratch .entry))) (now (out .entry)) (now (trace .entry)) o (now (work .exit)) (now (out .exit)) (now (trace .exit))) ⌝ }
+{
+    let given = instrument::read(file);
+    if given.refusal != 0 {
+        return refused(given.refusal as u64);
+    }
+    let read = session_words::session_at(words);
+    if read.is_session {
+        let instrument = given.instrument;
+        let session = read.session;
+        let outcome = session::play(instrument, session, work, scratch, out, trace);
+        return keep(words, outcome);
+    }
+    refused(RECORD)
+}
+
+#[no_mangle]
+pub extern "C" fn gingerfile_cue(file: &[u8], words: &mut [u64], work: &mut [f64]) -> Reply
+    ensures { λ r. ⌜ Crosses (now (file .entry)) (now (words .entry)) r (now (words .exit)) (now (work .exit) ≡ now (work .entry))
+        (λ i s o. CueMeets i s (now (work .entry)) o (now (work .exit))) ⌝ }
+{
+    let given = instrument::read(file);
+    if given.refusal != 0 {
+        return refused(given.refusal as u64);
+    }
+    let read = session_words::session_at(words);
+    if read.is_session {
+        let instrument = given.instrument;
+        let session = read.session;
+        let outcome = session::cue(instrument, session, work);
+        return keep(words, outcome);
+    }
+    refused(RECORD)
+}
+
+#[no_mangle]
+pub extern "C" fn gingerfile_go(
+    file: &[u8],
+    words: &mut [u64],
+    work: &mut [f64],
+    scratch: &mut [f64],
+    p: u64,
+) -> Reply
+    ensures { λ r. ⌜ Crosses (now (file .entry)) (now (words .entry)) r (now (words .exit)) (now (work .exit) ≡ now (work .entry))
+        (λ i s o. GoMeets i s (now (work .entry)) (length (now (scratch .entry))) p o (now (work .exit))) ⌝ }
+{
+    let given = instrument::read(file);
+    if given.refusal != 0 {
+        return refused(given.refusal as u64);
+    }
+    let read = session_words::session_at(words);
+    if read.is_session {
+        let instrument = given.instrument;
+        let session = read.session;
+        let outcome = session::go(instrument, session, work, scratch, p);
+        return keep(words, outcome);
+    }
+    refused(RECORD)
+}
+
+// Numbers that are no event's: 7, as for words that are no session's.
+#[no_mangle]
+pub extern "C" fn gingerfile_insert(
+    file: &[u8],
+    words: &mut [u64],
+    work: &mut [f64],
+    position: u64,
+    kind: u64,
+    key: u64,
+    velocity: f64,
+) -> Reply
+    ensures { λ r. ⌜ InsertCrosses kind key (now (file .entry)) (now (words .entry)) r (now (words .exit)) (now (work .exit) ≡ now (work .entry))
+        (λ i s o. InsertMeets i s (now (work .entry)) (record { position = position; event = eventOf kind key velocity }) o (now (work .exit))) ⌝ }
+{
+    let given = instrument::read(file);
+    if given.refusal != 0 {
+        return refused(given.refusal as u64);
+    }
+    let read = session_words::session_at(words);
+    if read.is_session {
+        if session_words::is_event(kind, key) {
+            let instrument = given.instrument;
+            let session = read.session;
+            let event = session_words::event_of(kind, key, velocity);
+            let timed = TimedEvent { position, event };
+            let outcome = session::insert(instrument, session, work, timed);
+            return keep(words, outcome);
+        }
+        return refused(RECORD);
+    }
+    refused(RECORD)
+}
+
+#[no_mangle]
+pub extern "C" fn gingerfile_remove(
+    file: &[u8],
+    words: &mut [u64],
+    work: &mut [f64],
+    index: usize,
+) -> Reply
+    ensures { λ r. ⌜ Crosses (now (file .entry)) (now (words .entry)) r (now (words .exit)) (now (work .exit) ≡ now (work .entry))
+        (λ i s o. RemoveMeets i s (now (work .entry)) index o (now (work .exit))) ⌝ }
+{
+    let given = instrument::read(file);
+    if given.refusal != 0 {
+        return refused(given.refusal as u64);
+    }
+    let read = session_words::session_at(words);
+    if read.is_session {
+        let instrument = given.instrument;
+        let session = read.session;
+        let outcome = session::remove(instrument, session, work, index);
+        return keep(words, outcome);
+    }
+    refused(RECORD)
+}
