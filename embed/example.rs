@@ -1,0 +1,143 @@
+//! A phrase rendered through the embedded piano: strikes, a cue, a step back, an edit. `example DIR` writes the instrument's
+//! file and the phrase as a WAV to DIR, and says what happened.
+
+#[allow(dead_code)]
+mod gingerfile;
+
+use gingerfile::{Console, Event, Refusal};
+use std::fs::write;
+
+const FS: f64 = 44_100.0;
+const BLOCK: usize = 256;
+const BEAT: u64 = 17_640;
+
+/// A string of frequency f: 2n cells, the loss filter's delay and the allpass's, D, make a period.
+fn string(f: f64) -> Vec<u8> {
+    let corner = 0.1;
+    let rest = FS / f - corner / (1.0 - corner);
+    let n = ((rest - 0.5) / 2.0).floor();
+    let delay = rest - 2.0 * n;
+    let gain = 10f64.powf(-3.0 / (5.0 * f));
+    let mut bytes = Vec::new();
+    bytes.extend((n as u16).to_le_bytes());
+    bytes.extend(0u16.to_le_bytes());
+    for x in [delay + corner / (1.0 - corner), (1.0 - delay) / (1.0 + delay), 0.0, gain, corner] {
+        bytes.extend(x.to_le_bytes());
+    }
+    bytes
+}
+
+/// A key of three strings, a little out of tune with each other.
+fn key(number: u8) -> Vec<u8> {
+    let f = 440.0 * 2f64.powf((number as f64 - 69.0) / 12.0);
+    let mut bytes = vec![number, 1, 3, 0];
+    for x in [0.3, 261.63 / f, 0.12, 0.135] {
+        bytes.extend(f64::to_le_bytes(x));
+    }
+    for cents in [-1.1, 0.3, 0.8] {
+        bytes.extend(string(f * 2f64.powf(cents / 1200.0)));
+    }
+    bytes
+}
+
+/// An instrument file: the table of sections, the common section, and a section a key.
+fn instrument(keys: &[u8]) -> Vec<u8> {
+    let mut common = Vec::new();
+    for x in [FS, 0.0195, 7e-5, 4.7e7, 0.1, 2e-5, 0.0012, 1.0, 0.06] {
+        common.extend(f64::to_le_bytes(x));
+    }
+    common.extend(5u32.to_le_bytes());
+    let sections: Vec<Vec<u8>> = std::iter::once(common).chain(keys.iter().map(|number| key(*number))).collect();
+    let mut file = (sections.len() as u32).to_le_bytes().to_vec();
+    let mut offset = 4 + 8 * sections.len() as u32;
+    for section in &sections {
+        file.extend(offset.to_le_bytes());
+        file.extend((section.len() as u32).to_le_bytes());
+        offset += section.len() as u32;
+    }
+    file.extend(sections.concat());
+    file
+}
+
+/// Plays `count` samples in blocks; gives them and the number of forces.
+fn play(console: &mut Console, count: usize) -> Result<(Vec<f64>, usize), Refusal> {
+    let mut out = vec![0.0; count];
+    let mut trace = vec![0.0; BLOCK];
+    let mut forces = 0;
+    for block in out.chunks_mut(BLOCK) {
+        forces += console.play(block, &mut trace)?;
+    }
+    Ok((out, forces))
+}
+
+/// Mono, 16 bits, as loud as fits.
+fn wav(samples: &[f64], fs: f64) -> Vec<u8> {
+    let loudest = samples.iter().fold(1e-9, |most: f64, x| most.max(x.abs()));
+    let data: Vec<u8> = samples.iter().flat_map(|x| ((x / loudest * 32_000.0) as i16).to_le_bytes()).collect();
+    let rate = fs as u32;
+    let mut file = b"RIFF".to_vec();
+    file.extend((36 + data.len() as u32).to_le_bytes());
+    file.extend(b"WAVEfmt ");
+    file.extend(16u32.to_le_bytes());
+    for x in [1u16, 1] {
+        file.extend(x.to_le_bytes());
+    }
+    for x in [rate, 2 * rate] {
+        file.extend(x.to_le_bytes());
+    }
+    for x in [2u16, 16] {
+        file.extend(x.to_le_bytes());
+    }
+    file.extend(b"data");
+    file.extend((data.len() as u32).to_le_bytes());
+    file.extend(data);
+    file
+}
+
+fn phrase(file: &[u8], folder: &str) -> Result<(), Refusal> {
+    let mut console = Console::open(file)?;
+    for (beat, number) in [60, 64, 67, 72, 67, 64, 60].iter().enumerate() {
+        console.insert(beat as u64 * BEAT, Event::NoteOn { key: *number, velocity: 3.0 })?;
+        console.insert(beat as u64 * BEAT + BEAT * 3 / 4, Event::NoteOff { key: *number })?;
+    }
+    let (mut samples, forces) = play(&mut console, 4 * BEAT as usize)?;
+    println!("four beats: {} samples, {forces} forces, {} contact samples", samples.len(), console.contact_samples());
+
+    // A cue at the fourth beat; on to the sixth, and back to the cue.
+    console.cue()?;
+    let kept = console.words().to_vec();
+    let (first, _) = play(&mut console, 2 * BEAT as usize)?;
+    let replayed = console.go(4 * BEAT)?;
+    let (again, _) = play(&mut console, 2 * BEAT as usize)?;
+    assert!(first.iter().zip(&again).all(|(a, b)| a.to_bits() == b.to_bits()), "a step back plays the same");
+    println!("back to the cue: {replayed} samples replayed, and the next {} are the same", again.len());
+
+    // An edit at the fifth beat takes the piano back to the cue; its strike is the ninth event.
+    samples.extend(again);
+    let index = (0..console.event_count()).find(|i| console.words()[2 + 4 * *i as usize] == 5 * BEAT).unwrap();
+    let edited = console.remove(index as usize)?;
+    println!("an edit: at {} again, {} cues dropped", edited.t, edited.dropped);
+    assert_eq!(edited.t, 4 * BEAT);
+    samples.truncate(edited.t as usize);
+    samples.extend(play(&mut console, 4 * BEAT as usize)?.0);
+    write(format!("{folder}/phrase.wav"), wav(&samples, console.fs())).expect("the phrase is written");
+
+    // Words that no session has.
+    let mut wrong = kept;
+    wrong[3] = 4;
+    console.set_words(&wrong);
+    assert_eq!(console.cue(), Err(Refusal(7)));
+    assert_eq!(console.words(), wrong);
+    println!("a word that no session has: refused as 7");
+    Ok(())
+}
+
+fn main() {
+    let folder = std::env::args().nth(1).unwrap_or(".".to_string());
+    let file = instrument(&[60, 64, 67, 72]);
+    write(format!("{folder}/piano"), &file).expect("the instrument is written");
+    assert_eq!(Console::open(&file[1..]).err(), Some(Refusal(1)));
+    if let Err(Refusal(number)) = phrase(&file, &folder) {
+        panic!("refused: {number}");
+    }
+}

@@ -1,0 +1,103 @@
+/* The rehearsal piano for C: libgingerfile.a, made by `rt staticlib gingerfile`. Numbers and slices alone cross; a slice is
+   a pointer and a length in elements. Slices of one call must not overlap. Nothing is kept between calls: the host owns the
+   instrument's file, the session's words and the work memory, and hands them to every call.
+
+   Every call answers a refusal's number, 0 for none. A refused call changes nothing.
+
+    1 to 6  the file: table, chain, lengths, fields, over 32 strings, a key twice
+    7       the words are no session's, or an event's numbers no event's
+    8       work memory has fewer cells than gingerfile_read says
+    9       scratch has fewer cells than gingerfile_read says
+   10       the trace is shorter than the output
+   11       t + m, p or a position exceeds 2,000,000,000
+   12       the score has 64 events
+   13       a velocity is NaN or outside -100 to 100
+   14       the index has no event
+   15       four other cues are kept
+   16       a go would replay more than 1,000,000 samples
+   17       the factor exceeds 64 or the input 1,048,576 samples
+   18       there are not 127 taps
+   19       the decimator's output has another length than gingerfile_decimated says */
+#ifndef GINGERFILE_H
+#define GINGERFILE_H
+
+#include <stddef.h>
+#include <stdint.h>
+
+#ifdef __cplusplus
+extern "C" {
+#endif
+
+/* A session's words, one a number: the position t, the number of events, 64 events, four cues, the piano now. A host may
+   read them and keep copies of them. Words that a call has not written are refused as 7. */
+enum {
+    GINGERFILE_WORDS = 541,
+    GINGERFILE_T = 0,
+    GINGERFILE_COUNT = 1,
+    /* Events of 4 words: position, kind, key, and a strike's velocity by its bits. */
+    GINGERFILE_EVENTS = 2,
+    /* Cues of 57 words: 1 where one is kept, its position, its piano. */
+    GINGERFILE_CUES = 258,
+    /* The piano now: 16 held, 16 hand-damped, 16 damper resistances, the pedal, whether a hammer flies, its key's index,
+       its place and speed, contact samples, peak force; floats by their bits. */
+    GINGERFILE_PIANO = 486,
+    GINGERFILE_CONTACT_SAMPLES = 539
+};
+
+/* Kinds of an event; the pedal's key is 1 for down, 0 for up. */
+enum { GINGERFILE_STRIKE = 0, GINGERFILE_RELEASE = 1, GINGERFILE_PEDAL = 2, GINGERFILE_HAND_DAMP = 3 };
+
+typedef struct {
+    uint64_t refusal;
+    /* play: the number of forces; go: the number of samples replayed; insert and remove: t. */
+    uint64_t value;
+    /* insert and remove: the number of cues dropped. */
+    uint64_t dropped;
+} gingerfile_reply;
+
+typedef struct {
+    uint64_t refusal;
+    /* Samples a second. */
+    double fs;
+    size_t keys;
+    size_t strings;
+    /* GINGERFILE_WORDS, cells of work memory, cells of scratch. */
+    size_t words;
+    size_t work;
+    size_t scratch;
+} gingerfile_sizes;
+
+/* What an instrument file asks of its player. Refuses 1 to 6. */
+gingerfile_sizes gingerfile_read(const uint8_t *file, size_t file_length);
+
+/* A session in silence at position 0, with no events and no cues. Words and work may hold anything before. Refuses 1 to 8. */
+gingerfile_reply gingerfile_open(const uint8_t *file, size_t file_length, uint64_t *words, size_t words_length, double *work,
+                                 size_t work_length);
+
+/* Renders as many samples as `out` has; the first forces of `trace` are those of the samples with a hammer. Refuses 1 to 11. */
+gingerfile_reply gingerfile_play(const uint8_t *file, size_t file_length, uint64_t *words, size_t words_length, double *work,
+                                 size_t work_length, double *scratch, size_t scratch_length, double *out,
+                                 size_t out_length, double *trace, size_t trace_length);
+
+/* Keeps the state at t; no change where t is kept already. Refuses 1 to 8 and 15. */
+gingerfile_reply gingerfile_cue(const uint8_t *file, size_t file_length, uint64_t *words, size_t words_length, double *work,
+                                size_t work_length);
+
+/* To position p, from the nearest of 0, the kept cues and t. Refuses 1 to 9, 11 and 16. */
+gingerfile_reply gingerfile_go(const uint8_t *file, size_t file_length, uint64_t *words, size_t words_length, double *work,
+                               size_t work_length, double *scratch, size_t scratch_length, uint64_t p);
+
+/* Places an event after all events at or before its position. `velocity` counts for a strike alone. Refuses 1 to 8 and 11 to 13. */
+gingerfile_reply gingerfile_insert(const uint8_t *file, size_t file_length, uint64_t *words, size_t words_length,
+                                   double *work, size_t work_length, uint64_t position, uint64_t kind, uint64_t key,
+                                   double velocity);
+
+/* Removes the event at an index from 0. Refuses 1 to 8 and 14. */
+gingerfile_reply gingerfile_remove(const uint8_t *file, size_t file_length, uint64_t *words, size_t words_length,
+                                   double *work, size_t work_length, size_t index);
+
+#ifdef __cplusplus
+}
+#endif
+
+#endif

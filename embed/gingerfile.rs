@@ -1,0 +1,234 @@
+//! The rehearsal piano for Rust: a safe wrapper over `libgingerfile.a` (`rt staticlib gingerfile`). Numbers and slices alone
+//! cross; the calls keep nothing, so a [`Console`] owns the instrument's file, the session's words, work memory and scratch.
+
+/// Words of a session; see `gingerfile.h` for what stands where.
+pub const WORDS: usize = 541;
+const T: usize = 0;
+const COUNT: usize = 1;
+const CONTACT_SAMPLES: usize = 539;
+
+/// A refusal's number, 1 to 19. A refused call has changed nothing.
+#[derive(Clone, Copy, Debug, PartialEq, Eq)]
+pub struct Refusal(pub u64);
+
+#[derive(Clone, Copy, Debug, PartialEq)]
+pub enum Event {
+    NoteOn { key: u8, velocity: f64 },
+    NoteOff { key: u8 },
+    Pedal(bool),
+    HandDamp { key: u8 },
+}
+
+/// What an edit gives: the position after it, and how many cues it dropped.
+#[derive(Clone, Copy, Debug, PartialEq, Eq)]
+pub struct Edited {
+    pub t: u64,
+    pub dropped: u64,
+}
+
+#[repr(C)]
+struct Reply {
+    refusal: u64,
+    value: u64,
+    dropped: u64,
+}
+
+#[repr(C)]
+struct Sizes {
+    refusal: u64,
+    fs: f64,
+    keys: usize,
+    strings: usize,
+    words: usize,
+    work: usize,
+    scratch: usize,
+}
+
+#[rustfmt::skip]
+extern "C" {
+    fn gingerfile_read(file: *const u8, file_length: usize) -> Sizes;
+    fn gingerfile_open(file: *const u8, file_length: usize, words: *mut u64, words_length: usize, work: *mut f64, work_length: usize) -> Reply;
+    fn gingerfile_play(
+        file: *const u8, file_length: usize, words: *mut u64, words_length: usize, work: *mut f64, work_length: usize,
+        scratch: *mut f64, scratch_length: usize, out: *mut f64, out_length: usize, trace: *mut f64, trace_length: usize,
+    ) -> Reply;
+    fn gingerfile_cue(file: *const u8, file_length: usize, words: *mut u64, words_length: usize, work: *mut f64, work_length: usize) -> Reply;
+    fn gingerfile_go(
+        file: *const u8, file_length: usize, words: *mut u64, words_length: usize, work: *mut f64, work_length: usize,
+        scratch: *mut f64, scratch_length: usize, p: u64,
+    ) -> Reply;
+    fn gingerfile_insert(
+        file: *const u8, file_length: usize, words: *mut u64, words_length: usize, work: *mut f64, work_length: usize,
+        position: u64, kind: u64, key: u64, velocity: f64,
+    ) -> Reply;
+    fn gingerfile_remove(
+        file: *const u8, file_length: usize, words: *mut u64, words_length: usize, work: *mut f64, work_length: usize, index: usize,
+    ) -> Reply;
+}
+
+impl Reply {
+    fn accepted(self) -> Result<Reply, Refusal> {
+        match self.refusal {
+            0 => Ok(self),
+            number => Err(Refusal(number)),
+        }
+    }
+}
+
+/// An instrument and a session on it.
+pub struct Console {
+    file: Vec<u8>,
+    fs: f64,
+    words: Vec<u64>,
+    work: Vec<f64>,
+    scratch: Vec<f64>,
+}
+
+// Every pointer below is a slice's, handed over with the slice's length; the slices are distinct, and the library reads and
+// writes within them alone, which is proved.
+impl Console {
+    /// Reads an instrument file and opens a session on it.
+    pub fn open(file: &[u8]) -> Result<Console, Refusal> {
+        let sizes = unsafe { gingerfile_read(file.as_ptr(), file.len()) };
+        if sizes.refusal != 0 {
+            return Err(Refusal(sizes.refusal));
+        }
+        let mut console = Console {
+            file: file.to_vec(),
+            fs: sizes.fs,
+            words: vec![0; sizes.words],
+            work: vec![0.0; sizes.work],
+            scratch: vec![0.0; sizes.scratch],
+        };
+        let Console { file, words, work, .. } = &mut console;
+        unsafe {
+            gingerfile_open(file.as_ptr(), file.len(), words.as_mut_ptr(), words.len(), work.as_mut_ptr(), work.len())
+        }
+        .accepted()?;
+        Ok(console)
+    }
+
+    /// Renders as many samples as `out` has; gives the number of forces, which stand first in `trace`.
+    pub fn play(&mut self, out: &mut [f64], trace: &mut [f64]) -> Result<usize, Refusal> {
+        let Console { file, words, work, scratch, .. } = self;
+        let reply = unsafe {
+            gingerfile_play(
+                file.as_ptr(),
+                file.len(),
+                words.as_mut_ptr(),
+                words.len(),
+                work.as_mut_ptr(),
+                work.len(),
+                scratch.as_mut_ptr(),
+                scratch.len(),
+                out.as_mut_ptr(),
+                out.len(),
+                trace.as_mut_ptr(),
+                trace.len(),
+            )
+        };
+        Ok(reply.accepted()?.value as usize)
+    }
+
+    /// Keeps the state at the position now.
+    pub fn cue(&mut self) -> Result<(), Refusal> {
+        let Console { file, words, work, .. } = self;
+        unsafe {
+            gingerfile_cue(file.as_ptr(), file.len(), words.as_mut_ptr(), words.len(), work.as_mut_ptr(), work.len())
+        }
+        .accepted()?;
+        Ok(())
+    }
+
+    /// To position p; gives the number of samples that were replayed.
+    pub fn go(&mut self, p: u64) -> Result<u64, Refusal> {
+        let Console { file, words, work, scratch, .. } = self;
+        let reply = unsafe {
+            gingerfile_go(
+                file.as_ptr(),
+                file.len(),
+                words.as_mut_ptr(),
+                words.len(),
+                work.as_mut_ptr(),
+                work.len(),
+                scratch.as_mut_ptr(),
+                scratch.len(),
+                p,
+            )
+        };
+        Ok(reply.accepted()?.value)
+    }
+
+    /// Places an event after all events at or before its position.
+    pub fn insert(&mut self, position: u64, event: Event) -> Result<Edited, Refusal> {
+        let (kind, key, velocity) = match event {
+            Event::NoteOn { key, velocity } => (0, key as u64, velocity),
+            Event::NoteOff { key } => (1, key as u64, 0.0),
+            Event::Pedal(down) => (2, down as u64, 0.0),
+            Event::HandDamp { key } => (3, key as u64, 0.0),
+        };
+        let Console { file, words, work, .. } = self;
+        let reply = unsafe {
+            gingerfile_insert(
+                file.as_ptr(),
+                file.len(),
+                words.as_mut_ptr(),
+                words.len(),
+                work.as_mut_ptr(),
+                work.len(),
+                position,
+                kind,
+                key,
+                velocity,
+            )
+        }
+        .accepted()?;
+        Ok(Edited { t: reply.value, dropped: reply.dropped })
+    }
+
+    /// Removes the event at an index from 0.
+    pub fn remove(&mut self, index: usize) -> Result<Edited, Refusal> {
+        let Console { file, words, work, .. } = self;
+        let reply = unsafe {
+            gingerfile_remove(
+                file.as_ptr(),
+                file.len(),
+                words.as_mut_ptr(),
+                words.len(),
+                work.as_mut_ptr(),
+                work.len(),
+                index,
+            )
+        }
+        .accepted()?;
+        Ok(Edited { t: reply.value, dropped: reply.dropped })
+    }
+
+    /// Samples a second.
+    pub fn fs(&self) -> f64 {
+        self.fs
+    }
+
+    pub fn position(&self) -> u64 {
+        self.words[T]
+    }
+
+    pub fn event_count(&self) -> u64 {
+        self.words[COUNT]
+    }
+
+    /// The count that titles follow.
+    pub fn contact_samples(&self) -> u64 {
+        self.words[CONTACT_SAMPLES]
+    }
+
+    /// The session's words, to keep or to send.
+    pub fn words(&self) -> &[u64] {
+        &self.words
+    }
+
+    /// Puts words back that were kept; whether they are a session's, the next call says.
+    pub fn set_words(&mut self, words: &[u64]) {
+        self.words = words.to_vec();
+    }
+}
