@@ -1,12 +1,14 @@
 -- What each return of a call from C or Rust gives, over plain values. Assumes nothing.
 use mathlib.Core.Path.{_≡_, refl, sym, ap, _∙_, subst}
 use mathlib.Core.Bool.{Bool, true, false, true≢false, false≢true}
-use mathlib.Core.List.{List}
-use Prim.Native.Nat.{ℕ, _*_, _≤_}
+use mathlib.Core.List.{List, map}
+use Prim.Native.Nat.{ℕ, _+_, _*_, _≤_, _<_}
+use native.Mathlib.Numerals.{add-one}
 use native.Mathlib.Omega.{arith}
 use lib.Dec.{eqb}
 use lib.Ieee.{Float, binary64, ofBits}
-use lib.ListN.{length}
+use lib.ListN.{length, take, getD, set, length-map, List·getD-map}
+use lib.Seq.{take-suc, take-suc-set, take-all}
 use borrow.Author.Tests.{eq-eqb, ne-eqb, eqb-true}
 use Rattle.counting.specs.Every.{and-left}
 use Rattle.instrument.specs.declared.Instrument.{Instrument}
@@ -19,11 +21,15 @@ use Rattle.encoding.specs.Accepted.{accepted-valid}
 use Rattle.session_record.specs.declared.Session.{Session}
 use Rattle.session.specs.declared.Outcome.{Outcome}
 use Rattle.session.specs.Calls.{OpenMeets}
+use Rattle.energies.specs.declared.EnergiesAnswer.{EnergiesAnswer}
+use Rattle.energies.specs.Energy.{EnergiesMeet}
 use Rattle.session_words.specs.declared.Read.{Read}
 use Rattle.session_words.specs.Session as W
 use Rattle.session_words.specs.Session.{wordsOf, sessionOf, isSession, isEvent, PutMeets}
 use Rattle.gingerfile.specs.declared.Reply.{Reply}
 use Rattle.gingerfile.specs.declared.Sizes.{Sizes}
+use Rattle.gingerfile.specs.declared.KeyEnergies.{KeyEnergies}
+use Rattle.gingerfile.specs.Energies.{energyOf, numberOf, noEnergies, flatOf, EnergiesCross}
 use Rattle.gingerfile.specs.Crossing.{refusedBy, replyOf, sizesOf, Keeps, Crosses, InsertCrosses, Opens, OpenCrosses}
 
 -- ---- the file
@@ -167,3 +173,47 @@ module _ (f w : List ℕ) (work : List Float) (g : ReadAnswer) (eg : g ≡ readO
 
       pub open-accepts : (q : Reply) (w′ : List ℕ) → r .refusal ≡ 0 → Keeps o q w′ → OpenCrosses f w work q w′ work′
       open-accepts q w′ z keeps = subst (λ (x : Reply). OpenCrosses f w work x w′ work′) (er ∙ sym (keeps .reply)) (opened w′ (λ _. keeps .words) (λ e. absurd (e z)))
+
+-- ---- energies
+
+module _ {A B : Type 0} (g : A → B) where
+  -- element k has been copied
+  pub map-turn : (xs : List A) (d : A) (out : List B) (k : ℕ) → k < length xs → length out ≡ length xs → take k out ≡ take k (map g xs)
+      → take (k + 1) (set out k (g (getD xs k d))) ≡ take (k + 1) (map g xs)
+  map-turn xs d out k h long inv =
+      rw (add-one, take-suc-set out k (g (getD xs k d)) (omega arith), inv, ← (List·getD-map g xs k d)) (sym (take-suc (map g xs) k (g d) (omega (arith, length-map xs g))))
+
+  pub map-end : (xs : List A) (out : List B) (k : ℕ) → length xs ≤ k → length out ≡ length xs → take k out ≡ take k (map g xs) → out ≡ map g xs
+  map-end xs out k done long inv = sym (take-all k out (omega arith)) ∙ inv ∙ take-all k (map g xs) (omega (arith, length-map xs g))
+
+module _ (f w : List ℕ) (work : List Float) (g : ReadAnswer) (eg : g ≡ readOf f) where
+  pub energies-file : (g .refusal ≡ 0 → ⊥) → (n : ℕ) (r : KeyEnergies) → n ≡ g .refusal → r ≡ noEnergies n → EnergiesCross f w work r
+  energies-file h n r en er =
+      record {
+        file = λ _. er ∙ ap noEnergies (en ∙ ap (λ (x : ReadAnswer). x .refusal) eg);
+        record7 = λ z _. absurd (h (was f g eg z));
+        asks = λ z _. absurd (h (was f g eg z));
+      }
+
+  module _ (h : g .refusal ≡ 0) (rd : Read) (ed : rd ≡ W.readOf w) where
+    pub energies-record : rd .«is_session» ≡ false → (r : KeyEnergies) → r ≡ noEnergies 7 → EnergiesCross f w work r
+    energies-record k r er =
+        record {
+          file = λ z. absurd (z (now-is f g eg h));
+          record7 = λ _ _. er;
+          asks = λ _ z. absurd (true≢false (sym z ∙ sym (ap (λ (x : Read). x .«is_session») ed) ∙ k));
+        }
+
+    pub energies-asked : rd .«is_session» ≡ true → (a : EnergiesAnswer) → EnergiesMeet (g .instrument) (rd .session) work a → (xs : List Float) (ks : List ℕ) → xs ≡ map energyOf (a .energies .keys)
+        → ks ≡ map numberOf (a .energies .keys) → EnergiesCross f w work (record { refusal = a .refusal; count = a .energies .count; energies = xs; keys = ks })
+    unfolding flatOf
+    energies-asked k a m xs ks ex ek =
+        record {
+          file = λ z. absurd (z (now-is f g eg h));
+          record7 = λ _ z. absurd (false≢true (sym z ∙ sym (ap (λ (x : Read). x .«is_session») ed) ∙ k));
+          asks = λ _ _. record {
+            answer = a;
+            meets = subst (λ (x : ReadAnswer). EnergiesMeet (x .instrument) (sessionOf w) work a) eg (subst (λ (x : Read). EnergiesMeet (g .instrument) (x .session) work a) ed m);
+            flat = rw (ex, ek);
+          };
+        }

@@ -2,11 +2,15 @@
 // numbers. Each call reads the file and the words, makes the session's call, and writes the words; a refused call changes nothing, the words neither.
 ghost use mathlib.Core.Path.{_≡_};
 ghost use Prim.Native.Nat.{_+_, _*_, _≤_};
+ghost use mathlib.Core.List.{map};
 ghost use lib.ListN.{length};
+ghost use Rattle.decimator.specs.Decimate.{outputLength, DecimateMeets};
 ghost use Rattle.instrument.specs.File.{readOf};
 ghost use Rattle.session.specs.Calls.{PlayMeets, CueMeets, GoMeets, InsertMeets, RemoveMeets};
 ghost use Rattle.session_words.specs.Session.{eventOf};
 ghost use Rattle.gingerfile.specs.Crossing.{refusedBy, replyOf, sizesOf, Keeps, Crosses, OpenCrosses, InsertCrosses};
+ghost use Rattle.gingerfile.specs.Energies.{energyOf, numberOf, noEnergies, EnergiesCross};
+use energies::KeyEnergy;
 use score::TimedEvent;
 use session::Answer;
 use session::Outcome;
@@ -29,6 +33,15 @@ pub struct Sizes {
     pub words: usize,
     pub work: usize,
     pub scratch: usize,
+}
+
+// Each key's energy and number in the file's order, zeros past the last; the refusal's number, 0 for none.
+#[repr(C)]
+pub struct KeyEnergies {
+    pub refusal: u64,
+    pub count: usize,
+    pub energies: [f64; 16],
+    pub keys: [u8; 16],
 }
 
 const RECORD: u64 = 7;
@@ -268,4 +281,84 @@ pub extern "C" fn gingerfile_remove(
         return keep(words, outcome);
     }
     refused(RECORD)
+}
+
+fn energies_of(pairs: [KeyEnergy; 16]) -> [f64; 16]
+    ensures { λ r. ⌜ r ≡ map energyOf pairs ⌝ }
+{
+    let mut energies = [0.0; 16];
+    for k in 0usize..16usize {
+        let pair = pairs[k];
+        energies[k] = pair.energy;
+    }
+    energies
+}
+
+fn numbers_of(pairs: [KeyEnergy; 16]) -> [u8; 16]
+    ensures { λ r. ⌜ r ≡ map numberOf pairs ⌝ }
+{
+    let mut keys = [0u8; 16];
+    for k in 0usize..16usize {
+        let pair = pairs[k];
+        keys[k] = pair.key;
+    }
+    keys
+}
+
+fn no_energies(number: u64) -> KeyEnergies
+    ensures { λ r. ⌜ r ≡ noEnergies number ⌝ }
+{
+    KeyEnergies {
+        refusal: number,
+        count: 0,
+        energies: [0.0; 16],
+        keys: [0u8; 16],
+    }
+}
+
+#[no_mangle]
+pub extern "C" fn gingerfile_energies(file: &[u8], words: &[u64], work: &[f64]) -> KeyEnergies
+    ensures { λ r. ⌜ EnergiesCross (now (file .entry)) (now (words .entry)) (now (work .entry)) r ⌝ }
+{
+    let given = instrument::read(file);
+    if given.refusal != 0 {
+        return no_energies(given.refusal as u64);
+    }
+    let read = session_words::session_at(words);
+    if read.is_session {
+        let instrument = given.instrument;
+        let session = read.session;
+        let answer = energies::key_energies(instrument, session, work);
+        let found = answer.energies;
+        let pairs = found.keys;
+        let energies = energies_of(pairs);
+        let keys = numbers_of(pairs);
+        return KeyEnergies {
+            refusal: answer.refusal,
+            count: found.count,
+            energies,
+            keys,
+        };
+    }
+    no_energies(RECORD)
+}
+
+// How many samples the decimator makes of n.
+#[no_mangle]
+pub extern "C" fn gingerfile_decimated(n: usize, factor: usize) -> usize
+    ensures { λ r. ⌜ r ≡ outputLength n factor ⌝ }
+{
+    decimator::output_length(n, factor)
+}
+
+#[no_mangle]
+pub extern "C" fn gingerfile_decimate(
+    x: &[f64],
+    taps: &[f64],
+    factor: usize,
+    out: &mut [f64],
+) -> u64
+    ensures { λ r. ⌜ DecimateMeets (now (x .entry)) (now (taps .entry)) factor (now (out .entry)) r (now (out .exit)) ⌝ }
+{
+    decimator::decimate(x, taps, factor, out) as u64
 }
