@@ -4,6 +4,7 @@ ghost use Prim.Native.Nat.{_≤_};
 ghost use lib.ListN.{length, take};
 
 mod cue_list;
+mod energy_list;
 mod words;
 
 use instrument::Instrument;
@@ -290,7 +291,8 @@ fn put_pair(line: &mut [u8], n: u64, m: u64) -> usize {
     text::put_number(line, b, m)
 }
 
-fn put_state(line: &mut [u8], session: Session) -> usize {
+fn put_state(line: &mut [u8], console: Console) -> usize {
+    let session = console.session;
     let piano = session.piano;
     let motion = piano.motion;
     let a = text::put(line, 0, b"ok t ");
@@ -310,9 +312,16 @@ fn put_score(line: &mut [u8], at: usize, session: Session) -> usize {
     cue_list::put_cues(line, c, cues)
 }
 
-// The energies come with a crate of their own.
-fn put_energies(line: &mut [u8], at: u64) -> usize {
-    put_fault(line, at, Fault::UnknownCommand)
+fn put_energies(line: &mut [u8], instrument: Instrument, console: Console, work: &[f64]) -> usize {
+    let lent = console.lent;
+    let session = console.session;
+    let cells = fitting(lent.work, work);
+    let answer = energies::key_energies(instrument, session, &work[..cells]);
+    if answer.refusal != 0 {
+        return put_refusal(line, answer.refusal);
+    }
+    let at = text::put(line, 0, b"ok");
+    energy_list::put_energies(line, at, answer.energies)
 }
 
 // The answer to the script's line `at`, into `line`, and its length; none to a line that is skipped.
@@ -321,7 +330,8 @@ pub fn put_reply(
     at: u64,
     reply: Reply,
     instrument: Instrument,
-    session: Session,
+    console: Console,
+    work: &[f64],
 ) -> usize {
     match reply {
         Reply::Skipped => 0,
@@ -336,7 +346,7 @@ pub fn put_reply(
         Reply::Done => text::put(line, 0, b"ok"),
         Reply::Went(n) => put_ok(line, n),
         Reply::Edited { t, dropped } => put_pair(line, t, dropped),
-        Reply::Energies => put_energies(line, at),
-        Reply::State => put_state(line, session),
+        Reply::Energies => put_energies(line, instrument, console, work),
+        Reply::State => put_state(line, console),
     }
 }

@@ -10,7 +10,6 @@ use libc::STDOUT_FILENO;
 use lines::Found;
 use lines::Reader;
 use script::Command;
-use session_record::Session;
 use std::num::wrapping_add_u64;
 
 // Whether the rehearsal goes on, and else how it ended: at the script's end, or where a read or a write failed.
@@ -126,12 +125,13 @@ fn say_reply(
     p: Progress,
     reply: Reply,
     instrument: Instrument,
-    session: Session,
+    console: Console,
+    work: &[f64],
     answers: &mut [u8],
 ) -> Progress {
     let mut line = [0u8; 1024];
     let n = output::count(
-        console::put_reply(&mut line, p.line, reply, instrument, session),
+        console::put_reply(&mut line, p.line, reply, instrument, console, work),
         &line,
     );
     say(p, &line[..n], answers)
@@ -193,9 +193,8 @@ fn call(
     let before = r.console;
     let turn = console::answer(instrument, before, command, work, scratch, out, trace);
     let console = turn.console;
-    let session = console.session;
     let reply = turn.reply;
-    let said = say_reply(r.progress, reply, instrument, session, answers);
+    let said = say_reply(r.progress, reply, instrument, console, work, answers);
     let progress = store(said, places, turn.samples, turn.forces, out, trace, bytes);
     Rehearsal { console, progress }
 }
@@ -328,7 +327,6 @@ fn open_console(
 ) -> Rehearsal {
     let turn = console::open(instrument, work, trace);
     let console = turn.console;
-    let session = console.session;
     let reply = turn.reply;
     let start = Progress {
         reader,
@@ -338,7 +336,7 @@ fn open_console(
         due: work_time() + PATIENCE,
         ending: Ending::GoesOn,
     };
-    let said = say_reply(start, reply, instrument, session, answers);
+    let said = say_reply(start, reply, instrument, console, work, answers);
     let progress = match reply {
         Reply::Opened => said,
         _ => ended(said, Ending::Finished),

@@ -40,10 +40,9 @@ fn open(file: &[u8], work: &mut [f64], trace: &[f64], text: &mut [u8]) -> Replay
     let instrument = answer.instrument;
     let turn = console::open(instrument, work, trace);
     let console = turn.console;
-    let session = console.session;
     let reply = turn.reply;
     let length = if answer.refusal == 0 {
-        console::put_reply(text, 0, reply, instrument, session)
+        console::put_reply(text, 0, reply, instrument, console, work)
     } else {
         console::put_refusal(text, answer.refusal as u64)
     };
@@ -78,9 +77,8 @@ fn call(
         trace,
     );
     let console = turn.console;
-    let session = console.session;
     let reply = turn.reply;
-    let length = console::put_reply(text, r.line, reply, instrument, session);
+    let length = console::put_reply(text, r.line, reply, instrument, console, work);
     Replay {
         instrument,
         console,

@@ -105,23 +105,24 @@ fn try_energies(instrument: Instrument, session: Session, work: &[f64]) {
     say(b" energies ", answer.refusal);
 }
 
-// Every call gets the same session and memory that the others left.
-fn try_calls(name: &[u8], instrument: Instrument, session: Session, work: &mut [f64]) {
+// Every call gets the same session, and the memory that the others left.
+fn try_calls(name: &[u8], instrument: Instrument, session: Session) {
+    let mut work = [0.25; 25310];
     io::write_all(STDOUT_FILENO, name);
     io::write_all(STDOUT_FILENO, b":");
-    try_energies(instrument, session, work);
-    try_play(instrument, session, work);
-    try_cue(instrument, session, work);
-    try_go(instrument, session, work);
-    try_insert(instrument, session, work);
-    try_remove(instrument, session, work);
+    try_energies(instrument, session, &work);
+    try_play(instrument, session, &mut work);
+    try_cue(instrument, session, &mut work);
+    try_go(instrument, session, &mut work);
+    try_insert(instrument, session, &mut work);
+    try_remove(instrument, session, &mut work);
     io::write_all(STDOUT_FILENO, b"\n");
 }
 
 // t, the count and the events.
-fn try_scores(i: Instrument, s: Session, work: &mut [f64]) {
-    try_calls(b"t above the end", i, records::at(s, 2_000_000_001), work);
-    try_calls(b"65 events", i, records::with_count(s, 65), work);
+fn try_scores(i: Instrument, s: Session) {
+    try_calls(b"t above the end", i, records::at(s, 2_000_000_001));
+    try_calls(b"65 events", i, records::with_count(s, 65));
     try_calls(
         b"a position that falls",
         i,
@@ -155,7 +156,7 @@ fn try_scores(i: Instrument, s: Session, work: &mut [f64]) {
 }
 
 // The hammer and the count of contacts, in the piano now.
-fn try_pianos(i: Instrument, s: Session, work: &mut [f64]) {
+fn try_pianos(i: Instrument, s: Session) {
     try_calls(
         b"a hammer on a key not there",
         i,
@@ -170,7 +171,7 @@ fn try_pianos(i: Instrument, s: Session, work: &mut [f64]) {
     );
 }
 
-fn try_cues(i: Instrument, s: Session, work: &mut [f64]) {
+fn try_cues(i: Instrument, s: Session) {
     try_calls(
         b"a cue above the end",
         i,
@@ -178,7 +179,7 @@ fn try_cues(i: Instrument, s: Session, work: &mut [f64]) {
         work,
     );
     let one = records::with_cue(s, 1, 5);
-    try_calls(b"two equal cues", i, records::with_cue(one, 3, 5), work);
+    try_calls(b"two equal cues", i, records::with_cue(one, 3, 5));
     try_calls(
         b"a cue's hammer on a key not there",
         i,
@@ -194,10 +195,10 @@ fn try_cues(i: Instrument, s: Session, work: &mut [f64]) {
 }
 
 // The instrument's half of refusal 7.
-fn try_instruments(i: Instrument, s: Session, work: &mut [f64]) {
-    try_calls(b"33 strings", records::with_strings(i, 33), s, work);
-    try_calls(b"no key", records::with_keys(i, 0), s, work);
-    try_calls(b"a rate of NaN", records::with_rate(i, 0.0 / 0.0), s, work);
+fn try_instruments(i: Instrument, s: Session) {
+    try_calls(b"33 strings", records::with_strings(i, 33), s);
+    try_calls(b"no key", records::with_keys(i, 0), s);
+    try_calls(b"a rate of NaN", records::with_rate(i, 0.0 / 0.0), s);
     try_calls(
         b"an exponent of 11 halves",
         records::with_exponent(i, 11),
@@ -213,8 +214,8 @@ fn try_instruments(i: Instrument, s: Session, work: &mut [f64]) {
 }
 
 // Right records: the floats of the state may hold anything, and what lies past the counts decides nothing.
-fn try_right(i: Instrument, s: Session, work: &mut [f64]) {
-    try_calls(b"right", i, s, work);
+fn try_right(i: Instrument, s: Session) {
+    try_calls(b"right", i, s);
     try_calls(
         b"floats of the state",
         i,
@@ -247,28 +248,24 @@ fn try_right(i: Instrument, s: Session, work: &mut [f64]) {
     );
 }
 
-fn blank() -> [u8; 4096] {
-    [0u8; 4096]
-}
-
-fn try_all(i: Instrument, work: &mut [f64]) {
+// A session at 10 that keeps nothing.
+fn right_session(i: Instrument) -> Session {
+    let mut work = [0.0; 25310];
     let mut scratch = [0.0; 192];
-    let opened = session::open(i, work);
-    let there = session::go(i, opened.session, work, &mut scratch, 10);
-    let s = there.session;
-    try_right(i, s, work);
-    try_scores(i, s, work);
-    try_pianos(i, s, work);
-    try_cues(i, s, work);
-    try_instruments(i, s, work);
+    let opened = session::open(i, &mut work);
+    let there = session::go(i, opened.session, &mut work, &mut scratch, 10);
+    there.session
 }
 
 fn main() {
-    let mut file = blank();
-    embedded::put_instrument(&mut file);
-    let answer = instrument::read(&file[..1408]);
-    say(b"instrument ", answer.refusal as u64);
-    io::write_all(STDOUT_FILENO, b"\n");
-    let mut work = [0.0; 25310];
-    try_all(answer.instrument, &mut work);
+    let mut file = io::buffer();
+    let n = embedded::put_instrument(&mut file);
+    let answer = instrument::read(little_endian::part(&file, 0, n));
+    let i = answer.instrument;
+    let s = right_session(i);
+    try_right(i, s);
+    try_scores(i, s);
+    try_pianos(i, s);
+    try_cues(i, s);
+    try_instruments(i, s);
 }
