@@ -33,10 +33,12 @@ const FS: f64 = 44_100.0;
 const KEY: usize = 36;
 const STRING: usize = 44;
 
-/// Impedance, mass and stiffness of a real string and hammer, all divided by this: the same motion, at a useful loudness.
+/// Impedance, mass and stiffness of a real string and hammer, all divided by this: the same motion, at a useful
+/// loudness.
 const QUIETER: f64 = 128.0;
 
-/// A key as it is designed: its strings' inharmonicity (0: no dispersion), and the seconds to −60 dB of its fundamental and of its partials near 6 kHz.
+/// A key as it is designed: its strings' inharmonicity (0: no dispersion), and the seconds to −60 dB of its
+/// fundamental and of its partials near 6 kHz.
 struct Plan {
     key: u8,
     strings: usize,
@@ -216,9 +218,10 @@ fn module(instrument: &Instrument) -> String {
         let function = section_function(&name, &remark, section, KEY);
         parts.push((name, function));
     }
-    let mut text = "// The instrument that `rehearse` has inside, as its file would have it. Written by compare/embedded.\n\
+    let mut text =
+        "// The instrument that `rehearse` has inside, as its file would have it. Written by compare/embedded.\n\
          use text::put;\n\n"
-        .to_string();
+            .to_string();
     text.extend(parts.iter().map(|(_, function)| function.as_str()));
     let _ = writeln!(text, "// The whole file, and its length.\npub fn put_instrument(file: &mut [u8]) -> usize {{");
     for (i, (name, _)) in parts.iter().enumerate() {
