@@ -123,35 +123,22 @@ fn try_calls(name: &[u8], instrument: Instrument, session: Session) {
 fn try_scores(i: Instrument, s: Session) {
     try_calls(b"t above the end", i, records::at(s, 2_000_000_001));
     try_calls(b"65 events", i, records::with_count(s, 65));
-    try_calls(
-        b"a position that falls",
-        i,
-        records::with_events(s, 9, 8),
-        work,
-    );
+    try_calls(b"a position that falls", i, records::with_events(s, 9, 8));
     try_calls(
         b"a position above the end",
         i,
         records::with_events(s, 0, 2_000_000_001),
-        work,
     );
     try_calls(
         b"a velocity of NaN",
         i,
         records::with_velocity(s, 0.0 / 0.0),
-        work,
     );
-    try_calls(
-        b"a velocity of 100.5",
-        i,
-        records::with_velocity(s, 100.5),
-        work,
-    );
+    try_calls(b"a velocity of 100.5", i, records::with_velocity(s, 100.5));
     try_calls(
         b"a velocity of -infinity",
         i,
         records::with_velocity(s, -1.0 / 0.0),
-        work,
     );
 }
 
@@ -161,14 +148,8 @@ fn try_pianos(i: Instrument, s: Session) {
         b"a hammer on a key not there",
         i,
         records::with_hammer(s, i.key_count),
-        work,
     );
-    try_calls(
-        b"a contact count above t",
-        i,
-        records::with_contacts(s, 11),
-        work,
-    );
+    try_calls(b"a contact count above t", i, records::with_contacts(s, 11));
 }
 
 fn try_cues(i: Instrument, s: Session) {
@@ -176,7 +157,6 @@ fn try_cues(i: Instrument, s: Session) {
         b"a cue above the end",
         i,
         records::with_cue(s, 0, 2_000_000_001),
-        work,
     );
     let one = records::with_cue(s, 1, 5);
     try_calls(b"two equal cues", i, records::with_cue(one, 3, 5));
@@ -184,13 +164,11 @@ fn try_cues(i: Instrument, s: Session) {
         b"a cue's hammer on a key not there",
         i,
         records::with_cue_hammer(s, 2, i.key_count),
-        work,
     );
     try_calls(
         b"a cue's contact count above it",
         i,
         records::with_cue_contacts(s, 2, 7),
-        work,
     );
 }
 
@@ -203,49 +181,22 @@ fn try_instruments(i: Instrument, s: Session) {
         b"an exponent of 11 halves",
         records::with_exponent(i, 11),
         s,
-        work,
     );
     try_calls(
         b"an unused key that is not zero",
         records::with_last_key(i, 9),
         s,
-        work,
     );
 }
 
 // Right records: the floats of the state may hold anything, and what lies past the counts decides nothing.
 fn try_right(i: Instrument, s: Session) {
     try_calls(b"right", i, s);
-    try_calls(
-        b"floats of the state",
-        i,
-        records::with_wild_floats(s),
-        work,
-    );
-    try_calls(
-        b"events past the count",
-        i,
-        records::with_wild_events(s),
-        work,
-    );
-    try_calls(
-        b"slots that keep nothing",
-        i,
-        records::with_wild_slots(s),
-        work,
-    );
-    try_calls(
-        b"a contact count of t",
-        i,
-        records::with_contacts(s, 10),
-        work,
-    );
-    try_calls(
-        b"a hammer on the last key",
-        i,
-        records::with_hammer(s, 7),
-        work,
-    );
+    try_calls(b"floats of the state", i, records::with_wild_floats(s));
+    try_calls(b"events past the count", i, records::with_wild_events(s));
+    try_calls(b"slots that keep nothing", i, records::with_wild_slots(s));
+    try_calls(b"a contact count of t", i, records::with_contacts(s, 10));
+    try_calls(b"a hammer on the last key", i, records::with_hammer(s, 7));
 }
 
 // A session at 10 that keeps nothing.
