@@ -4,7 +4,7 @@
 #[allow(dead_code)]
 mod gingerfile;
 
-use gingerfile::{Console, Event, Refusal};
+use gingerfile::{decimate, Console, Event, Refusal};
 use std::fs::write;
 
 const FS: f64 = 44_100.0;
@@ -112,6 +112,10 @@ fn phrase(file: &[u8], folder: &str) -> Result<(), Refusal> {
     assert!(first.iter().zip(&again).all(|(a, b)| a.to_bits() == b.to_bits()), "a step back plays the same");
     println!("back to the cue: {replayed} samples replayed, and the next {} are the same", again.len());
 
+    for (number, energy) in console.energies()? {
+        println!("key {number}: energy {energy:.3e}");
+    }
+
     // An edit at the fifth beat takes the piano back to the cue; its strike is the ninth event.
     samples.extend(again);
     let index = (0..console.event_count()).find(|i| console.words()[2 + 4 * *i as usize] == 5 * BEAT).unwrap();
@@ -121,6 +125,14 @@ fn phrase(file: &[u8], folder: &str) -> Result<(), Refusal> {
     samples.truncate(edited.t as usize);
     samples.extend(play(&mut console, 4 * BEAT as usize)?.0);
     write(format!("{folder}/phrase.wav"), wav(&samples, console.fs())).expect("the phrase is written");
+
+    // Half as many samples, of the means of neighbours.
+    let mut taps = vec![0.0; 127];
+    taps[63] = 0.5;
+    taps[64] = 0.5;
+    let half = decimate(&samples, &taps, 2)?;
+    println!("decimated by 2: {} samples of {}", half.len(), samples.len());
+    assert_eq!(decimate(&samples, &taps[1..], 2), Err(Refusal(18)));
 
     // Words that no session has.
     let mut wrong = kept;

@@ -96,6 +96,25 @@ gingerfile_reply gingerfile_insert(const uint8_t *file, size_t file_length, uint
 gingerfile_reply gingerfile_remove(const uint8_t *file, size_t file_length, uint64_t *words, size_t words_length,
                                    double *work, size_t work_length, size_t index);
 
+typedef struct {
+    uint64_t refusal;
+    /* The keys, in the file's order; zeros past them. */
+    size_t count;
+    double energies[16];
+    uint8_t keys[16];
+} gingerfile_key_energies;
+
+/* Each key's energy now. Nothing is written. Refuses 1 to 8. */
+gingerfile_key_energies gingerfile_energies(const uint8_t *file, size_t file_length, const uint64_t *words,
+                                            size_t words_length, const double *work, size_t work_length);
+
+/* How many samples the decimator makes of n. */
+size_t gingerfile_decimated(size_t n, size_t factor);
+
+/* Every factor-th sample of x behind 127 taps; a copy for factor 0 or 1. Gives the refusal's number: 17 to 19. */
+uint64_t gingerfile_decimate(const double *x, size_t x_length, const double *taps, size_t taps_length, size_t factor,
+                             double *out, size_t out_length);
+
 #ifdef __cplusplus
 }
 #endif

@@ -44,6 +44,14 @@ struct Sizes {
     scratch: usize,
 }
 
+#[repr(C)]
+struct KeyEnergies {
+    refusal: u64,
+    count: usize,
+    energies: [f64; 16],
+    keys: [u8; 16],
+}
+
 #[rustfmt::skip]
 extern "C" {
     fn gingerfile_read(file: *const u8, file_length: usize) -> Sizes;
@@ -64,6 +72,26 @@ extern "C" {
     fn gingerfile_remove(
         file: *const u8, file_length: usize, words: *mut u64, words_length: usize, work: *mut f64, work_length: usize, index: usize,
     ) -> Reply;
+    fn gingerfile_energies(
+        file: *const u8, file_length: usize, words: *const u64, words_length: usize, work: *const f64, work_length: usize,
+    ) -> KeyEnergies;
+    fn gingerfile_decimated(n: usize, factor: usize) -> usize;
+    fn gingerfile_decimate(
+        x: *const f64, x_length: usize, taps: *const f64, taps_length: usize, factor: usize, out: *mut f64, out_length: usize,
+    ) -> u64;
+}
+
+/// Every factor-th sample of x behind 127 taps; a copy for factor 0 or 1.
+pub fn decimate(x: &[f64], taps: &[f64], factor: usize) -> Result<Vec<f64>, Refusal> {
+    let mut out = vec![0.0; unsafe { gingerfile_decimated(x.len(), factor) }];
+    let refusal = unsafe {
+        gingerfile_decimate(x.as_ptr(), x.len(), taps.as_ptr(), taps.len(), factor, out.as_mut_ptr(), out.len())
+    };
+    if refusal == 0 {
+        Ok(out)
+    } else {
+        Err(Refusal(refusal))
+    }
 }
 
 impl Reply {
@@ -202,6 +230,18 @@ impl Console {
         }
         .accepted()?;
         Ok(Edited { t: reply.value, dropped: reply.dropped })
+    }
+
+    /// Each key's number and its energy now, in the file's order.
+    pub fn energies(&self) -> Result<Vec<(u8, f64)>, Refusal> {
+        let Console { file, words, work, .. } = self;
+        let answer = unsafe {
+            gingerfile_energies(file.as_ptr(), file.len(), words.as_ptr(), words.len(), work.as_ptr(), work.len())
+        };
+        match answer.refusal {
+            0 => Ok((0..answer.count).map(|k| (answer.keys[k], answer.energies[k])).collect()),
+            number => Err(Refusal(number)),
+        }
     }
 
     /// Samples a second.
