@@ -24,8 +24,7 @@ use Rattle.session.specs.Calls.{OpenMeets}
 use Rattle.energies.specs.declared.EnergiesAnswer.{EnergiesAnswer}
 use Rattle.energies.specs.Energy.{EnergiesMeet}
 use Rattle.session_words.specs.declared.Read.{Read}
-use Rattle.session_words.specs.Session as W
-use Rattle.session_words.specs.Session.{wordsOf, sessionOf, isSession, isEvent, PutMeets}
+use Rattle.session_words.specs.Session.{wordsOf, sessionOf, isSession, isEvent, ReadMeets, PutMeets}
 use Rattle.gingerfile.specs.declared.Reply.{Reply}
 use Rattle.gingerfile.specs.declared.Sizes.{Sizes}
 use Rattle.gingerfile.specs.declared.KeyEnergies.{KeyEnergies}
@@ -66,9 +65,9 @@ module _ (f : List ℕ) (g : ReadAnswer) (eg : g ≡ readOf f) where
 
 -- ---- the words
 
-pub session-long : (w : List ℕ) (rd : Read) → rd ≡ W.readOf w → rd .«is_session» ≡ true → length w ≡ 541
+pub session-long : (w : List ℕ) (rd : Read) → ReadMeets w rd → rd .«is_session» ≡ true → length w ≡ 541
 unfolding isSession
-session-long w rd e h = eqb-true (length w) 541 (and-left (eqb (length w) 541) _ (sym (ap (λ (x : Read). x .«is_session») e) ∙ h))
+session-long w rd e h = eqb-true (length w) 541 (and-left (eqb (length w) 541) _ (sym (e .answer) ∙ h))
 
 pub keeps-whole : (o : Outcome) (w w′ : List ℕ) (t : Bool) (r : Reply) → length w ≡ 541 → PutMeets (o .session) w t w′ → r ≡ replyOf (o .answer) → Keeps o r w′
 keeps-whole o w w′ t r h p e = record { reply = e; words = p .writes (p .answer ∙ eq-eqb (length w) 541 h) }
@@ -84,23 +83,23 @@ module _ (f w : List ℕ) (Same : Type 0) (Meets : Instrument → Session → Ou
         calls = λ z _. absurd (h (was f g eg z));
       }
 
-  module _ (h : g .refusal ≡ 0) (rd : Read) (ed : rd ≡ W.readOf w) where
+  module _ (h : g .refusal ≡ 0) (rd : Read) (ed : ReadMeets w rd) where
     pub crosses-record : rd .«is_session» ≡ false → (r : Reply) → r ≡ refusedBy 7 → Same → Crosses f w r w Same Meets
     crosses-record k r er same =
         record {
           file = λ z. absurd (z (now-is f g eg h));
           record7 = λ _ _. (er, refl, same);
-          calls = λ _ z. absurd (true≢false (sym z ∙ sym (ap (λ (x : Read). x .«is_session») ed) ∙ k));
+          calls = λ _ z. absurd (true≢false (sym z ∙ sym (ed .answer) ∙ k));
         }
 
     pub crosses-call : rd .«is_session» ≡ true → (r : Reply) (w′ : List ℕ) (o : Outcome) → Meets (g .instrument) (rd .session) o → Keeps o r w′ → Crosses f w r w′ Same Meets
     crosses-call k r w′ o m keeps =
         record {
           file = λ z. absurd (z (now-is f g eg h));
-          record7 = λ _ z. absurd (false≢true (sym z ∙ sym (ap (λ (x : Read). x .«is_session») ed) ∙ k));
+          record7 = λ _ z. absurd (false≢true (sym z ∙ sym (ed .answer) ∙ k));
           calls = λ _ _. record {
             outcome = o;
-            meets = subst (λ (x : ReadAnswer). Meets (x .instrument) (sessionOf w) o) eg (subst (λ (x : Read). Meets (g .instrument) (x .session) o) ed m);
+            meets = subst (λ (x : ReadAnswer). Meets (x .instrument) (sessionOf w) o) eg (subst (λ (x : Session). Meets (g .instrument) x o) (ed .reads k) m);
             keeps = keeps;
           };
         }
@@ -122,12 +121,12 @@ module _ (kind key : ℕ) (f w : List ℕ) (Same : Type 0) (Meets : Instrument �
           file = λ z. absurd (z (now-is f g eg h));
         }
 
-    pub insert-record : (rd : Read) → rd ≡ W.readOf w → rd .«is_session» ≡ false → (r : Reply) → r ≡ refusedBy 7 → Same → InsertCrosses kind key f w r w Same Meets
+    pub insert-record : (rd : Read) → ReadMeets w rd → rd .«is_session» ≡ false → (r : Reply) → r ≡ refusedBy 7 → Same → InsertCrosses kind key f w r w Same Meets
     insert-record rd ed k r er same =
         let c = crosses-record f w Same Meets g eg h rd ed k r er same in
         record { none = λ _ _. (er, refl, same); event = λ _. c; file = c .file }
 
-    pub insert-call : (t : Bool) → t ≡ isEvent kind key → t ≡ true → (rd : Read) → rd ≡ W.readOf w → rd .«is_session» ≡ true → (r : Reply) (w′ : List ℕ) (o : Outcome)
+    pub insert-call : (t : Bool) → t ≡ isEvent kind key → t ≡ true → (rd : Read) → ReadMeets w rd → rd .«is_session» ≡ true → (r : Reply) (w′ : List ℕ) (o : Outcome)
         → Meets (g .instrument) (rd .session) o → Keeps o r w′ → InsertCrosses kind key f w r w′ Same Meets
     insert-call t et k rd ed l r w′ o m keeps =
         let c = crosses-call f w Same Meets g eg h rd ed l r w′ o m keeps in
@@ -195,13 +194,13 @@ module _ (f w : List ℕ) (work : List Float) (g : ReadAnswer) (eg : g ≡ readO
         asks = λ z _. absurd (h (was f g eg z));
       }
 
-  module _ (h : g .refusal ≡ 0) (rd : Read) (ed : rd ≡ W.readOf w) where
+  module _ (h : g .refusal ≡ 0) (rd : Read) (ed : ReadMeets w rd) where
     pub energies-record : rd .«is_session» ≡ false → (r : KeyEnergies) → r ≡ noEnergies 7 → EnergiesCross f w work r
     energies-record k r er =
         record {
           file = λ z. absurd (z (now-is f g eg h));
           record7 = λ _ _. er;
-          asks = λ _ z. absurd (true≢false (sym z ∙ sym (ap (λ (x : Read). x .«is_session») ed) ∙ k));
+          asks = λ _ z. absurd (true≢false (sym z ∙ sym (ed .answer) ∙ k));
         }
 
     pub energies-asked : rd .«is_session» ≡ true → (a : EnergiesAnswer) → EnergiesMeet (g .instrument) (rd .session) work a → (xs : List Float) (ks : List ℕ) → xs ≡ map energyOf (a .energies .keys)
@@ -210,10 +209,10 @@ module _ (f w : List ℕ) (work : List Float) (g : ReadAnswer) (eg : g ≡ readO
     energies-asked k a m xs ks ex ek =
         record {
           file = λ z. absurd (z (now-is f g eg h));
-          record7 = λ _ z. absurd (false≢true (sym z ∙ sym (ap (λ (x : Read). x .«is_session») ed) ∙ k));
+          record7 = λ _ z. absurd (false≢true (sym z ∙ sym (ed .answer) ∙ k));
           asks = λ _ _. record {
             answer = a;
-            meets = subst (λ (x : ReadAnswer). EnergiesMeet (x .instrument) (sessionOf w) work a) eg (subst (λ (x : Read). EnergiesMeet (g .instrument) (x .session) work a) ed m);
+            meets = subst (λ (x : ReadAnswer). EnergiesMeet (x .instrument) (sessionOf w) work a) eg (subst (λ (x : Session). EnergiesMeet (g .instrument) x work a) (ed .reads k) m);
             flat = rw (ex, ek);
           };
         }

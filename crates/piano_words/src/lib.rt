@@ -1,8 +1,8 @@
 // A piano's small state as 64-bit words in a lent slice, one word a scalar, so that it can cross to C and Rust: bools as 0 or 1, floats by their bits. What is written is read back.
 ghost use mathlib.Core.Path.{_≡_};
-ghost use Prim.Native.Nat.{_≤_};
+ghost use Prim.Native.Nat.{_+_, _≤_, _<_};
 ghost use lib.Ieee.{binary64, toBits};
-ghost use lib.ListN.{getD, drop, set};
+ghost use lib.ListN.{length, getD, drop, set};
 ghost use lib.Seq.{sets};
 ghost use Rattle.piano_words.specs.Items.{joined, itemsOf};
 ghost use Rattle.piano_words.specs.Piano.{bitOf, flagWord, flagOf, floatWord, floatOf, hammerWords, hammerOf, motionWords, motionOf, pianoWords, pianoOf};
@@ -10,20 +10,18 @@ use points::HammerState;
 use sample::Motion;
 use score::Piano;
 
-// The word at a place; 0 past the end.
 pub fn word_at(words: &[u64], at: usize) -> u64
+    requires { ⌜ at < length (now words) ⌝ }
     ensures { λ r. ⌜ r ≡ getD (now (words .entry)) at 0 ⌝ }
 {
-    if at < words.len() { words[at] } else { 0 }
+    words[at]
 }
 
-// A word is stored where there is a place for it.
 pub fn put(words: &mut [u64], at: usize, word: u64)
+    requires { ⌜ at < length (now words) ⌝ }
     ensures { λ _. ⌜ now (words .exit) ≡ set (now (words .entry)) at word ⌝ }
 {
-    if at < words.len() {
-        words[at] = word;
-    }
+    words[at] = word;
 }
 
 // A float's bits; one pattern stands for every NaN.
@@ -44,7 +42,7 @@ pub fn bit_of(flag: bool) -> u64
 }
 
 fn put_flags(words: &mut [u64], at: usize, flags: [bool; 16])
-    requires { ⌜ at ≤ 1000 ⌝ }
+    requires { ⌜ at + 16 ≤ length (now words) ⌝ }
     ensures { λ _. ⌜ now (words .exit) ≡ sets (now (words .entry)) at (joined flagWord flags) ⌝ }
 {
     for i in 0usize..16usize {
@@ -53,7 +51,7 @@ fn put_flags(words: &mut [u64], at: usize, flags: [bool; 16])
 }
 
 fn flags_at(words: &[u64], at: usize) -> [bool; 16]
-    requires { ⌜ at ≤ 1000 ⌝ }
+    requires { ⌜ at + 16 ≤ length (now words) ⌝ }
     ensures { λ r. ⌜ r ≡ itemsOf flagOf 1 16 (drop at (now (words .entry))) ⌝ }
 {
     let mut flags = [false; 16];
@@ -64,7 +62,7 @@ fn flags_at(words: &[u64], at: usize) -> [bool; 16]
 }
 
 fn put_floats(words: &mut [u64], at: usize, floats: [f64; 16])
-    requires { ⌜ at ≤ 1000 ⌝ }
+    requires { ⌜ at + 16 ≤ length (now words) ⌝ }
     ensures { λ _. ⌜ now (words .exit) ≡ sets (now (words .entry)) at (joined floatWord floats) ⌝ }
 {
     for i in 0usize..16usize {
@@ -73,7 +71,7 @@ fn put_floats(words: &mut [u64], at: usize, floats: [f64; 16])
 }
 
 fn floats_at(words: &[u64], at: usize) -> [f64; 16]
-    requires { ⌜ at ≤ 1000 ⌝ }
+    requires { ⌜ at + 16 ≤ length (now words) ⌝ }
     ensures { λ r. ⌜ r ≡ itemsOf floatOf 1 16 (drop at (now (words .entry))) ⌝ }
 {
     let mut floats = [0.0; 16];
@@ -84,7 +82,7 @@ fn floats_at(words: &[u64], at: usize) -> [f64; 16]
 }
 
 fn put_hammer(words: &mut [u64], at: usize, hammer: HammerState)
-    requires { ⌜ at ≤ 1000 ⌝ }
+    requires { ⌜ at + 4 ≤ length (now words) ⌝ }
     ensures { λ _. ⌜ now (words .exit) ≡ sets (now (words .entry)) at (hammerWords hammer) ⌝ }
 {
     match hammer {
@@ -108,7 +106,7 @@ fn put_hammer(words: &mut [u64], at: usize, hammer: HammerState)
 }
 
 fn hammer_at(words: &[u64], at: usize) -> HammerState
-    requires { ⌜ at ≤ 1000 ⌝ }
+    requires { ⌜ at + 4 ≤ length (now words) ⌝ }
     ensures { λ r. ⌜ r ≡ hammerOf (drop at (now (words .entry))) ⌝ }
 {
     let flies = word_at(words, at);
@@ -127,7 +125,7 @@ fn hammer_at(words: &[u64], at: usize) -> HammerState
 }
 
 fn put_motion(words: &mut [u64], at: usize, motion: Motion)
-    requires { ⌜ at ≤ 1000 ⌝ }
+    requires { ⌜ at + 6 ≤ length (now words) ⌝ }
     ensures { λ _. ⌜ now (words .exit) ≡ sets (now (words .entry)) at (motionWords motion) ⌝ }
 {
     let hammer = motion.hammer;
@@ -137,7 +135,7 @@ fn put_motion(words: &mut [u64], at: usize, motion: Motion)
 }
 
 fn motion_at(words: &[u64], at: usize) -> Motion
-    requires { ⌜ at ≤ 1000 ⌝ }
+    requires { ⌜ at + 6 ≤ length (now words) ⌝ }
     ensures { λ r. ⌜ r ≡ motionOf (drop at (now (words .entry))) ⌝ }
 {
     let hammer = hammer_at(words, at);
@@ -152,7 +150,7 @@ fn motion_at(words: &[u64], at: usize) -> Motion
 
 // The 55 words of a piano, from `at` on.
 pub fn put_piano(words: &mut [u64], at: usize, piano: Piano)
-    requires { ⌜ at ≤ 900 ⌝ }
+    requires { ⌜ at + 55 ≤ length (now words) ⌝ }
     ensures { λ _. ⌜ now (words .exit) ≡ sets (now (words .entry)) at (pianoWords piano) ⌝ }
 {
     let held = piano.held;
@@ -167,7 +165,7 @@ pub fn put_piano(words: &mut [u64], at: usize, piano: Piano)
 }
 
 pub fn piano_at(words: &[u64], at: usize) -> Piano
-    requires { ⌜ at ≤ 900 ⌝ }
+    requires { ⌜ at + 55 ≤ length (now words) ⌝ }
     ensures { λ r. ⌜ r ≡ pianoOf (drop at (now (words .entry))) ⌝ }
 {
     let held = flags_at(words, at);

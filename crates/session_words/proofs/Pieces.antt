@@ -3,6 +3,7 @@ use mathlib.Core.Path.{_≡_, refl, sym, ap, _∙_}
 use mathlib.Core.Bool.{Bool, true, false, true≢false, false≢true, cond, _&&_}
 use mathlib.Core.List.{List, [], _∷_, _++_}
 use Prim.Native.Nat.{ℕ, suc, _+_, _*_, _%_, _≤_}
+use native.Mathlib.Numerals.{add-one}
 use native.Mathlib.Omega.{arith}
 use lib.Dec.{eqb, leb}
 use lib.Ieee.{Float, binary64, ofBits, toBits}
@@ -19,8 +20,7 @@ use Rattle.session_record.specs.declared.Session.{Session}
 use Rattle.piano_words.specs.Items.{joined, itemsOf, sets-next, sets-whole}
 use Rattle.piano_words.specs.Piano.{bitOf, pianoWords, pianoOf}
 use Rattle.piano_words.proofs.Pieces.{first}
-use Rattle.session_words.specs.declared.Read.{Read}
-use Rattle.session_words.specs.Session.{eventOf, eventWords, timedWords, timedOf, cueWords, cueOf, wordsOf, sessionOf, isSession, readOf, PutMeets}
+use Rattle.session_words.specs.Session.{eventOf, eventWords, timedWords, timedOf, cueWords, cueOf, wordsOf, sessionOf, isSession, ReadMeets, PutMeets}
 use Rattle.session_words.specs.Laws.{FitSession, events-length, cues-length, words-length, session-back, words-are, fit-of}
 
 -- ---- an event by its numbers
@@ -127,15 +127,21 @@ module _ (s : Session) (f : FitSession s) where
 
 -- ---- the test
 
-module _ (w : List ℕ) (s : Session) (es : s ≡ sessionOf w) where
-  pub read-whole : (l again : List ℕ) (r : Bool) → length w ≡ 541 → length l ≡ 541 → again ≡ sets l 0 (wordsOf s)
-      → r ≡ allBelow 541 (λ i. eqb (getD w i 0) (getD again i 0)) → record { «is_session» = r; session = s } ≡ readOf w
-  unfolding isSession
-  read-whole l again r h k ea er =
-      let a : again ≡ wordsOf (sessionOf w) = ea ∙ sets-whole l (wordsOf s) (ap (λ (z : Session). length (wordsOf z)) es ∙ words-length (sessionOf w) (fit-of w) ∙ sym k) ∙ ap wordsOf es in
-      let t : r ≡ allBelow 541 (λ i. eqb (getD w i 0) (getD (wordsOf (sessionOf w)) i 0)) = er ∙ ap (λ (v : List ℕ). allBelow 541 (λ i. eqb (getD w i 0) (getD v i 0))) a in
-      rw (t, es, eq-eqb (length w) 541 h)
+-- one word more
+pub all-next : (P : ℕ → Bool) (i : ℕ) (t : Bool) → t ≡ allBelow i P → (t && P i) ≡ allBelow (i + 1) P
+unfolding allBelow
+all-next P i t e = rw (add-one, e)
 
-  pub read-none : (length w ≡ 541 → ⊥) → record { «is_session» = false; session = s } ≡ readOf w
+module _ (w : List ℕ) (s : Session) where
+  pub read-whole : s ≡ sessionOf w → (l again : List ℕ) (r : Bool) → length w ≡ 541 → length l ≡ 541 → again ≡ sets l 0 (wordsOf s)
+      → r ≡ allBelow 541 (λ i. eqb (getD w i 0) (getD again i 0)) → ReadMeets w (record { «is_session» = r; session = s })
   unfolding isSession
-  read-none h = rw (es, ne-eqb (length w) 541 h)
+  read-whole es l again r h k ea er =
+      let long = ap (λ (z : Session). length (wordsOf z)) es ∙ words-length (sessionOf w) (fit-of w) in
+      let a : again ≡ wordsOf (sessionOf w) = ea ∙ sets-whole l (wordsOf s) (long ∙ sym k) ∙ ap wordsOf es in
+      let t : r ≡ allBelow 541 (λ i. eqb (getD w i 0) (getD (wordsOf (sessionOf w)) i 0)) = er ∙ ap (λ (v : List ℕ). allBelow 541 (λ i. eqb (getD w i 0) (getD v i 0))) a in
+      record { answer = rw (eq-eqb (length w) 541 h) t; reads = λ _. es }
+
+  pub read-none : (length w ≡ 541 → ⊥) → ReadMeets w (record { «is_session» = false; session = s })
+  unfolding isSession
+  read-none h = record { answer = rw (ne-eqb (length w) 541 h); reads = λ z. absurd (false≢true z) }

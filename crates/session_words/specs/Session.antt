@@ -58,8 +58,10 @@ sessionOf w =
 unfoldable pub isSession : List ℕ → Bool
 isSession w = eqb (length w) 541 && allBelow 541 (λ i. eqb (getD w i 0) (getD (wordsOf (sessionOf w)) i 0))
 
-abbrev pub readOf : List ℕ → Read
-readOf w = record { «is_session» = isSession w; session = sessionOf w }
+-- what reading w promises
+pub record ReadMeets (w : List ℕ) (r : Read) : Type 0 where
+  pub answer : r .«is_session» ≡ isSession w
+  pub reads : r .«is_session» ≡ true → r .session ≡ sessionOf w
 
 -- what writing s into a slice that held w promises; r is the answer, w′ what the slice holds then
 pub record PutMeets (s : Session) (w : List ℕ) (r : Bool) (w′ : List ℕ) : Type 0 where

@@ -1,13 +1,13 @@
 // The session's record as 541 words in a lent slice, so that it can cross to C and Rust. What is written is read back, and words that no session has are told apart.
 ghost use mathlib.Core.Path.{_≡_};
 ghost use mathlib.Core.List.{[], _∷_};
-ghost use Prim.Native.Nat.{_≤_};
+ghost use Prim.Native.Nat.{_+_, _≤_};
 ghost use lib.Dec.{eqb};
 ghost use lib.ListN.{length, getD, drop};
 ghost use lib.Seq.{sets};
 ghost use Rattle.counting.specs.Below.{allBelow};
 ghost use Rattle.piano_words.specs.Items.{joined, itemsOf};
-ghost use Rattle.session_words.specs.Session.{eventOf, isEvent, eventWords, timedWords, timedOf, cueWords, cueOf, wordsOf, sessionOf, readOf, PutMeets};
+ghost use Rattle.session_words.specs.Session.{eventOf, isEvent, eventWords, timedWords, timedOf, cueWords, cueOf, wordsOf, sessionOf, ReadMeets, PutMeets};
 use cues::Cue;
 use piano_words::bit_of;
 use piano_words::bits_of;
@@ -57,7 +57,7 @@ pub fn event_of(kind: u64, key: u64, velocity: f64) -> Event
 }
 
 fn put_three(words: &mut [u64], at: usize, kind: u64, key: u64, velocity: u64)
-    requires { ⌜ at ≤ 1000 ⌝ }
+    requires { ⌜ at + 3 ≤ length (now words) ⌝ }
     ensures { λ _. ⌜ now (words .exit) ≡ sets (now (words .entry)) at (kind ∷ (key ∷ (velocity ∷ []))) ⌝ }
 {
     put(words, at, kind);
@@ -66,7 +66,7 @@ fn put_three(words: &mut [u64], at: usize, kind: u64, key: u64, velocity: u64)
 }
 
 fn put_event(words: &mut [u64], at: usize, event: Event)
-    requires { ⌜ at ≤ 1000 ⌝ }
+    requires { ⌜ at + 3 ≤ length (now words) ⌝ }
     ensures { λ _. ⌜ now (words .exit) ≡ sets (now (words .entry)) at (eventWords event) ⌝ }
 {
     match event {
@@ -78,7 +78,7 @@ fn put_event(words: &mut [u64], at: usize, event: Event)
 }
 
 fn put_timed(words: &mut [u64], at: usize, timed: TimedEvent)
-    requires { ⌜ at ≤ 900 ⌝ }
+    requires { ⌜ at + 4 ≤ length (now words) ⌝ }
     ensures { λ _. ⌜ now (words .exit) ≡ sets (now (words .entry)) at (timedWords timed) ⌝ }
 {
     let event = timed.event;
@@ -87,7 +87,7 @@ fn put_timed(words: &mut [u64], at: usize, timed: TimedEvent)
 }
 
 fn timed_at(words: &[u64], at: usize) -> TimedEvent
-    requires { ⌜ at ≤ 900 ⌝ }
+    requires { ⌜ at + 4 ≤ length (now words) ⌝ }
     ensures { λ r. ⌜ r ≡ timedOf (drop at (now (words .entry))) ⌝ }
 {
     let position = word_at(words, at);
@@ -99,7 +99,7 @@ fn timed_at(words: &[u64], at: usize) -> TimedEvent
 }
 
 fn put_cue(words: &mut [u64], at: usize, cue: Cue)
-    requires { ⌜ at ≤ 800 ⌝ }
+    requires { ⌜ at + 57 ≤ length (now words) ⌝ }
     ensures { λ _. ⌜ now (words .exit) ≡ sets (now (words .entry)) at (cueWords cue) ⌝ }
 {
     let piano = cue.piano;
@@ -109,7 +109,7 @@ fn put_cue(words: &mut [u64], at: usize, cue: Cue)
 }
 
 fn cue_at(words: &[u64], at: usize) -> Cue
-    requires { ⌜ at ≤ 800 ⌝ }
+    requires { ⌜ at + 57 ≤ length (now words) ⌝ }
     ensures { λ r. ⌜ r ≡ cueOf (drop at (now (words .entry))) ⌝ }
 {
     let kept = word_at(words, at) == 1;
@@ -123,6 +123,7 @@ fn cue_at(words: &[u64], at: usize) -> Cue
 }
 
 fn put_events(words: &mut [u64], events: [TimedEvent; 64])
+    requires { ⌜ 258 ≤ length (now words) ⌝ }
     ensures { λ _. ⌜ now (words .exit) ≡ sets (now (words .entry)) 2 (joined timedWords events) ⌝ }
 {
     for i in 0usize..64usize {
@@ -132,6 +133,7 @@ fn put_events(words: &mut [u64], events: [TimedEvent; 64])
 }
 
 fn events_at(words: &[u64]) -> [TimedEvent; 64]
+    requires { ⌜ 258 ≤ length (now words) ⌝ }
     ensures { λ r. ⌜ r ≡ itemsOf timedOf 4 64 (drop 2 (now (words .entry))) ⌝ }
 {
     let none = TimedEvent {
@@ -147,6 +149,7 @@ fn events_at(words: &[u64]) -> [TimedEvent; 64]
 }
 
 fn put_cues(words: &mut [u64], cues: [Cue; 4])
+    requires { ⌜ 486 ≤ length (now words) ⌝ }
     ensures { λ _. ⌜ now (words .exit) ≡ sets (now (words .entry)) 258 (joined cueWords cues) ⌝ }
 {
     for i in 0usize..4usize {
@@ -156,6 +159,7 @@ fn put_cues(words: &mut [u64], cues: [Cue; 4])
 }
 
 fn cues_at(words: &[u64]) -> [Cue; 4]
+    requires { ⌜ 486 ≤ length (now words) ⌝ }
     ensures { λ r. ⌜ r ≡ itemsOf cueOf 57 4 (drop 258 (now (words .entry))) ⌝ }
 {
     let first = cue_at(words, 258);
@@ -168,6 +172,7 @@ fn cues_at(words: &[u64]) -> [Cue; 4]
 }
 
 fn put_words(words: &mut [u64], session: Session)
+    requires { ⌜ 541 ≤ length (now words) ⌝ }
     ensures { λ _. ⌜ now (words .exit) ≡ sets (now (words .entry)) 0 (wordsOf session) ⌝ }
 {
     let events = session.events;
@@ -181,6 +186,7 @@ fn put_words(words: &mut [u64], session: Session)
 }
 
 fn session_in(words: &[u64]) -> Session
+    requires { ⌜ 541 ≤ length (now words) ⌝ }
     ensures { λ r. ⌜ r ≡ sessionOf (now (words .entry)) ⌝ }
 {
     let t = word_at(words, 0);
@@ -207,12 +213,11 @@ fn same(words: &[u64], others: &[u64]) -> bool
     requires { ⌜ (length (now words) ≡ 541) × (length (now others) ≡ 541) ⌝ }
     ensures { λ r. ⌜ r ≡ allBelow 541 (λ i. eqb (getD (now (words .entry)) i 0) (getD (now (others .entry)) i 0)) ⌝ }
 {
+    let mut alike = true;
     for i in 0usize..541usize {
-        if words[i] != others[i] {
-            return false;
-        }
+        alike = alike & (words[i] == others[i]);
     }
-    true
+    alike
 }
 
 // The session is written where the slice has its length; else nothing changes.
@@ -226,12 +231,12 @@ pub fn put_session(words: &mut [u64], session: Session) -> bool
     false
 }
 
-// Words are a session's where writing what was read gives them back.
+// Words are a session's where writing what was read gives them back. Where they are none, the session given is no one's.
 pub fn session_at(words: &[u64]) -> Read
-    ensures { λ r. ⌜ r ≡ readOf (now (words .entry)) ⌝ }
+    ensures { λ r. ⌜ ReadMeets (now (words .entry)) r ⌝ }
 {
-    let session = session_in(words);
     if words.len() == LENGTH {
+        let session = session_in(words);
         let mut again = blank();
         put_words(&mut again, session);
         let is_session = same(words, &again);
@@ -240,6 +245,8 @@ pub fn session_at(words: &[u64]) -> Read
             session,
         };
     }
+    let none = blank();
+    let session = session_in(&none);
     Read {
         is_session: false,
         session,

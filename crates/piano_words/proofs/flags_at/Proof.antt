@@ -1,6 +1,6 @@
 -- The invariant: the first i are read. Assumes nothing.
 use mathlib.Core.Path.{_≡_, refl, ap, _∙_}
-use Prim.Native.Nat.{ℕ, _-_, _≤_}
+use Prim.Native.Nat.{ℕ, _+_, _-_, _≤_}
 use native.Mathlib.Omega.{arith}
 use lib.Dec.{eqb}
 use lib.Ieee.{binary64, ofBits}
@@ -13,14 +13,14 @@ use Rattle.piano_words.proofs.flags_at.Statement.{statement}
 use Rattle.piano_words.proofs.flags_at.Tie as tie
 
 abbrev Inv-loop : tie.InvT-loop
-Inv-loop words at flags₀ i₀ flags i = (i ≤ 16) × (length flags ≡ 16) × (take i flags ≡ itemsOf flagOf 1 i (drop at words))
+Inv-loop words at flags₀ i₀ flags i = (i ≤ 16) × (length flags ≡ 16) × (at + 16 ≤ length words) × (take i flags ≡ itemsOf flagOf 1 i (drop at words))
 
 abbrev μ-loop : tie.MeasureT-loop
 μ-loop words at flags₀ i₀ flags i = 16 - i
 
 loop-holds : tie.Need-loop-holds Inv-loop μ-loop
 unfolding itemsOf
-loop-holds c = (omega arith, refl, refl)
+loop-holds c = (omega arith, refl, c .before .pre, refl)
 
 add-word-at : tie.Need-add-word-at Inv-loop μ-loop
 add-word-at c = search needs
@@ -43,7 +43,8 @@ loop-again c =
     let l = c .before .before .loop in (
       omega arith,
       simp length-set (l .inv .1),
-      items-turn flagOf 1 (l .i) (drop (z .at) (z .words .now)) (l .flags) _ (omega arith) (l .inv .2)
+      l .inv .2,
+      items-turn flagOf 1 (l .i) (drop (z .at) (z .words .now)) (l .flags) _ (omega arith) (l .inv .3)
           (ap (λ (x : ℕ). eqb x 1) (in-run (z .words .now) (z .at) (l .i) _ (c .word-at .ensures))),
     )
 
@@ -52,7 +53,7 @@ returns c =
     let l = c .before .loop in
     let z = c .before .before .before .args in
     let n : l .i ≡ 16 = omega arith in
-    items-end flagOf 1 16 (drop (z .at) (z .words .now)) (l .flags) (l .inv .1) (rw n at (l .inv .2))
+    items-end flagOf 1 16 (drop (z .at) (z .words .now)) (l .flags) (l .inv .1) (rw n at (l .inv .3))
 
 pub flags-at-spec : {M : Type 1} → statement M
 flags-at-spec =

@@ -1,6 +1,6 @@
 -- The invariant: the first i are read. Assumes nothing.
 use mathlib.Core.Path.{_≡_, refl, ap, _∙_}
-use Prim.Native.Nat.{ℕ, _-_, _≤_}
+use Prim.Native.Nat.{ℕ, _+_, _-_, _≤_}
 use native.Mathlib.Omega.{arith}
 use lib.Dec.{eqb}
 use lib.Ieee.{binary64, ofBits}
@@ -13,14 +13,14 @@ use Rattle.piano_words.proofs.floats_at.Statement.{statement}
 use Rattle.piano_words.proofs.floats_at.Tie as tie
 
 abbrev Inv-loop : tie.InvT-loop
-Inv-loop words at floats₀ i₀ floats i = (i ≤ 16) × (length floats ≡ 16) × (take i floats ≡ itemsOf floatOf 1 i (drop at words))
+Inv-loop words at floats₀ i₀ floats i = (i ≤ 16) × (length floats ≡ 16) × (at + 16 ≤ length words) × (take i floats ≡ itemsOf floatOf 1 i (drop at words))
 
 abbrev μ-loop : tie.MeasureT-loop
 μ-loop words at floats₀ i₀ floats i = 16 - i
 
 loop-holds : tie.Need-loop-holds Inv-loop μ-loop
 unfolding itemsOf
-loop-holds c = (omega arith, refl, refl)
+loop-holds c = (omega arith, refl, c .before .pre, refl)
 
 add-word-at : tie.Need-add-word-at Inv-loop μ-loop
 add-word-at c = search needs
@@ -49,7 +49,8 @@ loop-again c =
     let l = c .before .before .before .loop in (
       omega arith,
       simp length-set (l .inv .1),
-      items-turn floatOf 1 (l .i) (drop (z .at) (z .words .now)) (l .floats) _ (omega arith) (l .inv .2)
+      l .inv .2,
+      items-turn floatOf 1 (l .i) (drop (z .at) (z .words .now)) (l .floats) _ (omega arith) (l .inv .3)
           (c .float-of .ensures ∙ ap (ofBits binary64) (in-run (z .words .now) (z .at) (l .i) _ (c .before .word-at .ensures))),
     )
 
@@ -58,7 +59,7 @@ returns c =
     let l = c .before .loop in
     let z = c .before .before .before .args in
     let n : l .i ≡ 16 = omega arith in
-    items-end floatOf 1 16 (drop (z .at) (z .words .now)) (l .floats) (l .inv .1) (rw n at (l .inv .2))
+    items-end floatOf 1 16 (drop (z .at) (z .words .now)) (l .floats) (l .inv .1) (rw n at (l .inv .3))
 
 pub floats-at-spec : {M : Type 1} → statement M
 floats-at-spec =

@@ -3,8 +3,8 @@ use mathlib.Core.Path.{_≡_, refl, ap, _∙_}
 use lib.Ieee.{nan}
 use Prim.Native.Nat.{ℕ, _+_, _-_, _≤_}
 use native.Mathlib.Omega.{arith}
-use lib.ListN.{length, take, set}
-use lib.Seq.{sets, length-sets}
+use lib.ListN.{length, take, set, length-set}
+use lib.Seq.{sets}
 use borrow.Author.Needs.{needs}
 use Rattle.piano_words.specs.Items.{joined, joined-turn, joined-end}
 use Rattle.piano_words.specs.Piano.{floatWord}
@@ -13,14 +13,14 @@ use Rattle.piano_words.proofs.put_floats.Statement.{statement}
 use Rattle.piano_words.proofs.put_floats.Tie as tie
 
 abbrev Inv-loop : tie.InvT-loop
-Inv-loop words₀ at floats i₀ words i = (i ≤ 16) × (length floats ≡ 16) × (words ≡ sets words₀ at (joined floatWord (take i floats)))
+Inv-loop words₀ at floats i₀ words i = (i ≤ 16) × (length floats ≡ 16) × (at + 16 ≤ length words₀) × (length words ≡ length words₀) × (words ≡ sets words₀ at (joined floatWord (take i floats)))
 
 abbrev μ-loop : tie.MeasureT-loop
 μ-loop words₀ at floats i₀ words i = 16 - i
 
 loop-holds : tie.Need-loop-holds Inv-loop μ-loop
 unfolding joined
-loop-holds c = (omega arith, omega arith, refl)
+loop-holds c = (omega arith, omega arith, c .before .pre, refl, refl)
 
 add-put : tie.Need-add-put Inv-loop μ-loop
 add-put c = search needs
@@ -50,20 +50,19 @@ loop-again c =
     let stored = c .before .before .put .ensures ∙ ap (λ (x : ℕ). set (l .words) (z .at + l .i) x) (c .before .before .before .bits-of .ensures) in (
       omega arith,
       l .inv .1,
-      stored ∙ joined-turn Any floatWord 1 (λ x h. refl) (l .i) (z .t3) nan (z .words .now) (l .words) (z .at) (z .at + l .i) (all-any (z .t3)) (omega arith) (omega arith) (l .inv .2),
+      l .inv .2,
+      ap length stored ∙ length-set (l .words) (z .at + l .i) _ ∙ l .inv .3,
+      stored ∙ joined-turn Any floatWord 1 (λ x h. refl) (l .i) (z .t3) nan (z .words .now) (l .words) (z .at) (z .at + l .i) (all-any (z .t3)) (omega arith) (omega arith) (l .inv .4),
     )
 
 same-length : tie.Need-same-length Inv-loop μ-loop
-same-length c =
-    let l = c .before .loop in
-    let z = c .before .before .before .args in
-    ap length (l .inv .2) ∙ length-sets (z .words .now) (z .at) (joined floatWord (take (l .i) (z .t3)))
+same-length c = c .before .loop .inv .3
 
 returns : tie.Need-returns Inv-loop μ-loop
 returns c =
     let l = c .before .loop in
     let z = c .before .before .before .args in
-    joined-end Any floatWord 1 (λ x h. refl) (l .i) (z .t3) (z .words .now) (l .words) (z .at) (omega arith) (l .inv .2)
+    joined-end Any floatWord 1 (λ x h. refl) (l .i) (z .t3) (z .words .now) (l .words) (z .at) (omega arith) (l .inv .4)
 
 pub put-floats-spec : {M : Type 1} → statement M
 put-floats-spec =

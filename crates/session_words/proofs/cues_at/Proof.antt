@@ -11,7 +11,7 @@ use Rattle.session_words.proofs.cues_at.Statement.{statement}
 use Rattle.session_words.proofs.cues_at.Tie as tie
 
 abbrev Inv-loop : tie.InvT-loop
-Inv-loop words cues₀ i₀ cues i = (i ≤ 4) × (length cues ≡ 4) × (take i cues ≡ itemsOf cueOf 57 i (drop 258 words))
+Inv-loop words cues₀ i₀ cues i = (i ≤ 4) × (length cues ≡ 4) × (486 ≤ length words) × (take i cues ≡ itemsOf cueOf 57 i (drop 258 words))
 
 abbrev μ-loop : tie.MeasureT-loop
 μ-loop words cues₀ i₀ cues i = 4 - i
@@ -21,7 +21,7 @@ cue-at-requires c κs = search needs
 
 loop-holds : tie.Need-loop-holds Inv-loop μ-loop
 unfolding itemsOf
-loop-holds c = (omega arith, refl, refl)
+loop-holds c = (omega arith, refl, c .before .before .pre, refl)
 
 mul-cue-at : tie.Need-mul-cue-at Inv-loop μ-loop
 mul-cue-at c = search needs
@@ -50,7 +50,8 @@ loop-again c =
     let l = c .before .before .loop in (
       omega arith,
       simp length-set (l .inv .1),
-      items-turn cueOf 57 (l .i) (drop 258 (z .words .now)) (l .cues) _ (omega arith) (l .inv .2)
+      l .inv .2,
+      items-turn cueOf 57 (l .i) (drop 258 (z .words .now)) (l .cues) _ (omega arith) (l .inv .3)
           (c .cue-at2 .ensures ∙ ap cueOf (item-at (z .words .now) 258 57 (l .i))),
     )
 
@@ -59,7 +60,7 @@ returns c =
     let l = c .before .loop in
     let z = c .before .before .before .before .args in
     let n : l .i ≡ 4 = omega arith in
-    items-end cueOf 57 4 (drop 258 (z .words .now)) (l .cues) (l .inv .1) (rw n at (l .inv .2))
+    items-end cueOf 57 4 (drop 258 (z .words .now)) (l .cues) (l .inv .1) (rw n at (l .inv .3))
 
 pub cues-at-spec : {M : Type 1} → statement M
 cues-at-spec =

@@ -11,14 +11,14 @@ use Rattle.session_words.proofs.events_at.Statement.{statement}
 use Rattle.session_words.proofs.events_at.Tie as tie
 
 abbrev Inv-loop : tie.InvT-loop
-Inv-loop words events₀ i₀ events i = (i ≤ 64) × (length events ≡ 64) × (take i events ≡ itemsOf timedOf 4 i (drop 2 words))
+Inv-loop words events₀ i₀ events i = (i ≤ 64) × (length events ≡ 64) × (258 ≤ length words) × (take i events ≡ itemsOf timedOf 4 i (drop 2 words))
 
 abbrev μ-loop : tie.MeasureT-loop
 μ-loop words events₀ i₀ events i = 64 - i
 
 loop-holds : tie.Need-loop-holds Inv-loop μ-loop
 unfolding itemsOf
-loop-holds c = (omega arith, refl, refl)
+loop-holds c = (omega arith, refl, c .before .pre, refl)
 
 mul-timed-at : tie.Need-mul-timed-at Inv-loop μ-loop
 mul-timed-at c = search needs
@@ -47,7 +47,8 @@ loop-again c =
     let l = c .before .before .loop in (
       omega arith,
       simp length-set (l .inv .1),
-      items-turn timedOf 4 (l .i) (drop 2 (z .words .now)) (l .events) _ (omega arith) (l .inv .2)
+      l .inv .2,
+      items-turn timedOf 4 (l .i) (drop 2 (z .words .now)) (l .events) _ (omega arith) (l .inv .3)
           (c .timed-at .ensures ∙ ap timedOf (item-at (z .words .now) 2 4 (l .i))),
     )
 
@@ -56,7 +57,7 @@ returns c =
     let l = c .before .loop in
     let z = c .before .before .before .args in
     let n : l .i ≡ 64 = omega arith in
-    items-end timedOf 4 64 (drop 2 (z .words .now)) (l .events) (l .inv .1) (rw n at (l .inv .2))
+    items-end timedOf 4 64 (drop 2 (z .words .now)) (l .events) (l .inv .1) (rw n at (l .inv .3))
 
 pub events-at-spec : {M : Type 1} → statement M
 events-at-spec =

@@ -3,7 +3,7 @@ use mathlib.Core.Path.{_≡_, refl, ap, _∙_}
 use Prim.Native.Nat.{_+_, _*_, _-_, _≤_}
 use native.Mathlib.Omega.{arith}
 use lib.ListN.{length, take}
-use lib.Seq.{sets, length-sets}
+use lib.Seq.{sets}
 use Rattle.piano_words.specs.Items.{joined, joined-turn, joined-end}
 use Rattle.session_words.specs.Session.{cueWords}
 use Rattle.session_words.specs.Laws.{FitCue, cue-length}
@@ -13,14 +13,14 @@ use Rattle.session_words.proofs.put_cues.Statement.{statement}
 use Rattle.session_words.proofs.put_cues.Tie as tie
 
 abbrev Inv-loop : tie.InvT-loop
-Inv-loop words₀ cues i₀ words i = (i ≤ 4) × (length cues ≡ 4) × (words ≡ sets words₀ 258 (joined cueWords (take i cues)))
+Inv-loop words₀ cues i₀ words i = (i ≤ 4) × (length cues ≡ 4) × (486 ≤ length words₀) × (length words ≡ length words₀) × (words ≡ sets words₀ 258 (joined cueWords (take i cues)))
 
 abbrev μ-loop : tie.MeasureT-loop
 μ-loop words₀ cues i₀ words i = 4 - i
 
 loop-holds : tie.Need-loop-holds Inv-loop μ-loop
 unfolding joined
-loop-holds c = (omega arith, omega arith, refl)
+loop-holds c = (omega arith, omega arith, c .before .pre, refl, refl)
 
 mul-cue : tie.Need-mul-cue Inv-loop μ-loop
 mul-cue c = search needs
@@ -50,21 +50,20 @@ loop-again c =
     let l = c .before .before .before .before .before .before .loop in (
       omega arith,
       l .inv .1,
+      l .inv .2,
+      c .before .before .put-cue .kept .0 ∙ l .inv .3,
       c .before .before .put-cue .ensures
-          ∙ joined-turn FitCue cueWords 57 cue-length (l .i) (z .t2) _ (z .words .now) (l .words) 258 (258 + 57 * l .i) (fit-cues (z .t2) _ (s .good .1 .0)) (omega arith) refl (l .inv .2),
+          ∙ joined-turn FitCue cueWords 57 cue-length (l .i) (z .t2) _ (z .words .now) (l .words) 258 (258 + 57 * l .i) (fit-cues (z .t2) _ (s .good .1 .0)) (omega arith) refl (l .inv .4),
     )
 
 same-length : tie.Need-same-length Inv-loop μ-loop
-same-length c =
-    let l = c .before .loop in
-    let z = c .before .before .before .args in
-    ap length (l .inv .2) ∙ length-sets (z .words .now) 258 (joined cueWords (take (l .i) (z .t2)))
+same-length c = c .before .loop .inv .3
 
 returns : tie.Need-returns Inv-loop μ-loop
 returns c =
     let l = c .before .loop in
     let z = c .before .before .before .args in
-    joined-end FitCue cueWords 57 cue-length (l .i) (z .t2) (z .words .now) (l .words) 258 (omega arith) (l .inv .2)
+    joined-end FitCue cueWords 57 cue-length (l .i) (z .t2) (z .words .now) (l .words) 258 (omega arith) (l .inv .4)
 
 pub put-cues-spec : {M : Type 1} → statement M
 put-cues-spec =

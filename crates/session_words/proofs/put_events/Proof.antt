@@ -3,7 +3,7 @@ use mathlib.Core.Path.{_≡_, refl, ap, _∙_}
 use Prim.Native.Nat.{_+_, _*_, _-_, _≤_}
 use native.Mathlib.Omega.{arith}
 use lib.ListN.{length, take}
-use lib.Seq.{sets, length-sets}
+use lib.Seq.{sets}
 use Rattle.piano_words.specs.Items.{joined, joined-turn, joined-end}
 use Rattle.session_words.specs.Session.{timedWords}
 use Rattle.piano_words.specs.Back.{Any, all-any}
@@ -13,14 +13,14 @@ use Rattle.session_words.proofs.put_events.Statement.{statement}
 use Rattle.session_words.proofs.put_events.Tie as tie
 
 abbrev Inv-loop : tie.InvT-loop
-Inv-loop words₀ events i₀ words i = (i ≤ 64) × (length events ≡ 64) × (words ≡ sets words₀ 2 (joined timedWords (take i events)))
+Inv-loop words₀ events i₀ words i = (i ≤ 64) × (length events ≡ 64) × (258 ≤ length words₀) × (length words ≡ length words₀) × (words ≡ sets words₀ 2 (joined timedWords (take i events)))
 
 abbrev μ-loop : tie.MeasureT-loop
 μ-loop words₀ events i₀ words i = 64 - i
 
 loop-holds : tie.Need-loop-holds Inv-loop μ-loop
 unfolding joined
-loop-holds c = (omega arith, omega arith, refl)
+loop-holds c = (omega arith, omega arith, c .before .pre, refl, refl)
 
 mul-timed : tie.Need-mul-timed Inv-loop μ-loop
 mul-timed c = search needs
@@ -50,21 +50,20 @@ loop-again c =
     let l = c .before .before .before .before .before .before .loop in (
       omega arith,
       l .inv .1,
+      l .inv .2,
+      c .before .before .put-timed .kept .0 ∙ l .inv .3,
       c .before .before .put-timed .ensures
-          ∙ joined-turn Any timedWords 4 (λ e h. timed-size e) (l .i) (z .t2) _ (z .words .now) (l .words) 2 (2 + 4 * l .i) (all-any (z .t2)) (omega arith) refl (l .inv .2),
+          ∙ joined-turn Any timedWords 4 (λ e h. timed-size e) (l .i) (z .t2) _ (z .words .now) (l .words) 2 (2 + 4 * l .i) (all-any (z .t2)) (omega arith) refl (l .inv .4),
     )
 
 same-length : tie.Need-same-length Inv-loop μ-loop
-same-length c =
-    let l = c .before .loop in
-    let z = c .before .before .before .args in
-    ap length (l .inv .2) ∙ length-sets (z .words .now) 2 (joined timedWords (take (l .i) (z .t2)))
+same-length c = c .before .loop .inv .3
 
 returns : tie.Need-returns Inv-loop μ-loop
 returns c =
     let l = c .before .loop in
     let z = c .before .before .before .args in
-    joined-end Any timedWords 4 (λ e h. timed-size e) (l .i) (z .t2) (z .words .now) (l .words) 2 (omega arith) (l .inv .2)
+    joined-end Any timedWords 4 (λ e h. timed-size e) (l .i) (z .t2) (z .words .now) (l .words) 2 (omega arith) (l .inv .4)
 
 pub put-events-spec : {M : Type 1} → statement M
 put-events-spec =

@@ -24,12 +24,19 @@ same-requires c κs = search needs
 returns : tie.Need-returns
 returns c =
     let z = c .before .before .before .before .before .before .before .before .before .args in
-    read-whole (z .words .now) _ (c .before .before .before .before .before .before .before .session-in .ensures) _ _ _ (c .before .before .before .before .before .before .if1 .taken) (c .before .before .before .before .before .blank .ensures) (c .before .before .before .put-words .ensures) (c .same .ensures)
+    read-whole (z .words .now) _ (c .before .before .before .before .before .before .session-in .ensures) _ _ _ (c .before .before .before .before .before .before .before .if1 .taken) (c .before .before .before .before .before .blank .ensures) (c .before .before .before .put-words .ensures) (c .same .ensures)
+
+blank-requires-2 : tie.Need-blank-requires-2
+blank-requires-2 c κs = search needs
+
+slice-aggregate-session-in : tie.Need-slice-aggregate-session-in
+slice-aggregate-session-in c = search needs
+
+session-in-requires-2 : tie.Need-session-in-requires-2
+session-in-requires-2 c κs = search needs
 
 returns-2 : tie.Need-returns-2
-returns-2 c =
-    let z = c .before .before .before .args in
-    read-none (z .words .now) _ (c .before .session-in .ensures) (c .if1 .left)
+returns-2 c = read-none (c .before .before .before .before .before .args .words .now) _ (c .before .before .before .if1 .left)
 
 pub session-at-spec : {M : Type 1} → statement M
 session-at-spec =
@@ -42,4 +49,7 @@ session-at-spec =
     slice-aggregate-same
     same-requires
     returns
+    blank-requires-2
+    slice-aggregate-session-in
+    session-in-requires-2
     returns-2)
