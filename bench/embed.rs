@@ -160,8 +160,8 @@ fn rows_of(rows: &mut Vec<Measured>, name: &str, sides: &mut Sides, least: usize
 
 fn main() {
     let mut rows = Vec::new();
-    rows_of(&mut rows, "3 strings", &mut Sides::new(&instrument(1, 3, 0), 8_192), 256);
-    rows_of(&mut rows, "12 strings", &mut Sides::new(&instrument(4, 3, 0), 8_192), 256);
-    rows_of(&mut rows, "32 strings, 20 stages", &mut Sides::new(&instrument(16, 2, 20), 2_048), 64);
+    rows_of(&mut rows, "3 strings", &mut Sides::new(&instrument(1, 3, 0), 4_096), 256);
+    rows_of(&mut rows, "12 strings", &mut Sides::new(&instrument(4, 3, 0), 4_096), 256);
+    rows_of(&mut rows, "32 strings, 20 stages", &mut Sides::new(&instrument(16, 2, 20), 1_024), 64);
     std::process::exit(if report_sides(["from Rattle", "embedded"], &rows) { 0 } else { 1 });
 }

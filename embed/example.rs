@@ -103,26 +103,24 @@ fn phrase(file: &[u8], folder: &str) -> Result<(), Refusal> {
     let (mut samples, forces) = play(&mut console, 4 * BEAT as usize)?;
     println!("four beats: {} samples, {forces} forces, {} contact samples", samples.len(), console.contact_samples());
 
-    // A cue at the fourth beat; on to the sixth, and back to the cue.
+    // A cue after four beats; two beats on, and back to a little after the cue.
     console.cue()?;
-    let kept = console.words().to_vec();
     let (first, _) = play(&mut console, 2 * BEAT as usize)?;
-    let replayed = console.go(4 * BEAT)?;
-    let (again, _) = play(&mut console, 2 * BEAT as usize)?;
-    assert!(first.iter().zip(&again).all(|(a, b)| a.to_bits() == b.to_bits()), "a step back plays the same");
-    println!("back to the cue: {replayed} samples replayed, and the next {} are the same", again.len());
+    let replayed = console.go(4 * BEAT + 441)?;
+    let (again, _) = play(&mut console, 2 * BEAT as usize - 441)?;
+    let bits = |samples: &[f64]| -> Vec<u64> { samples.iter().map(|x| x.to_bits()).collect() };
+    assert_eq!(bits(&first[441..]), bits(&again), "a step back plays the same");
+    println!("a step back: {replayed} samples replayed from the cue, and the next {} are the same", again.len());
 
     for (number, energy) in console.energies()? {
         println!("key {number}: energy {energy:.3e}");
     }
 
-    // An edit at the fifth beat takes the piano back to the cue; its strike is the ninth event.
-    samples.extend(again);
+    // An edit of the sixth strike takes the piano back to the cue.
     let index = (0..console.event_count()).find(|i| console.words()[2 + 4 * *i as usize] == 5 * BEAT).unwrap();
     let edited = console.remove(index as usize)?;
     println!("an edit: at {} again, {} cues dropped", edited.t, edited.dropped);
     assert_eq!(edited.t, 4 * BEAT);
-    samples.truncate(edited.t as usize);
     samples.extend(play(&mut console, 4 * BEAT as usize)?.0);
     write(format!("{folder}/phrase.wav"), wav(&samples, console.fs())).expect("the phrase is written");
 
@@ -134,13 +132,23 @@ fn phrase(file: &[u8], folder: &str) -> Result<(), Refusal> {
     println!("decimated by 2: {} samples of {}", half.len(), samples.len());
     assert_eq!(decimate(&samples, &taps[1..], 2), Err(Refusal(18)));
 
-    // Words that no session has.
-    let mut wrong = kept;
-    wrong[3] = 4;
-    console.set_words(&wrong);
-    assert_eq!(console.cue(), Err(Refusal(7)));
-    assert_eq!(console.words(), wrong);
-    println!("a word that no session has: refused as 7");
+    // Each word in turn set to all ones: where no session has such words, or such a session is wrong, it is refused as 7, and
+    // the words stay. The others decide nothing: positions of 51 events that are not in the score, of 3 cues that are not kept,
+    // and the counts of those.
+    let kept = console.words().to_vec();
+    let mut refused = 0;
+    for i in 0..kept.len() {
+        let mut words = kept.clone();
+        words[i] = u64::MAX;
+        console.set_words(&words);
+        if let Err(refusal) = console.remove(usize::MAX) {
+            refused += (refusal == Refusal(7)) as usize;
+            assert!(refusal == Refusal(7) || refusal == Refusal(14));
+            assert_eq!(console.words(), words);
+        }
+    }
+    println!("{} words, one at a time all ones: {refused} refused as 7", kept.len());
+    assert_eq!(kept.len() - refused, 51 + 3 + 3);
     Ok(())
 }
 
