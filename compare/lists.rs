@@ -305,8 +305,8 @@ impl Writer<'_> {
         self.line("state".to_string());
     }
 
-    fn energies(&mut self, asked: bool) {
-        if asked && self.chance(4) {
+    fn energies(&mut self) {
+        if self.chance(4) {
             self.line("energies".to_string());
         }
     }
@@ -323,7 +323,7 @@ impl Writer<'_> {
         }
     }
 
-    fn mixed(&mut self, energies: bool) {
+    fn mixed(&mut self) {
         for _ in 0..8 + self.random.below(24) {
             match self.random.below(24) {
                 0 => self.lend(),
@@ -333,7 +333,7 @@ impl Writer<'_> {
                 4..=8 => self.state(),
                 _ => self.call(),
             }
-            self.energies(energies);
+            self.energies();
         }
     }
 
@@ -487,8 +487,7 @@ fn instrument_for(random: &mut Random, theme: Theme) -> Instrument {
     }
 }
 
-/// One list; with `energies` it asks for them too.
-pub fn list(random: &mut Random, theme: Theme, energies: bool) -> List {
+pub fn list(random: &mut Random, theme: Theme) -> List {
     let instrument = instrument_for(random, theme);
     let script = {
         let mut writer = Writer {
@@ -503,10 +502,10 @@ pub fn list(random: &mut Random, theme: Theme, energies: bool) -> List {
             writer.prelude();
         }
         match theme {
-            Theme::Mixed => writer.mixed(energies),
+            Theme::Mixed => writer.mixed(),
             Theme::Wild => {
                 writer.blow_up();
-                writer.mixed(energies);
+                writer.mixed();
             }
             Theme::Edits => writer.edits(),
             Theme::Full => writer.full(),
@@ -516,7 +515,7 @@ pub fn list(random: &mut Random, theme: Theme, energies: bool) -> List {
             Theme::End => writer.end(),
         }
         writer.state();
-        writer.energies(energies);
+        writer.energies();
         if writer.chance(6) {
             writer.script.pop(); // a last line need not end
         }

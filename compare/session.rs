@@ -1,5 +1,5 @@
 //! Compares the program `rehearse` with the plain machine over the Rust renderer, through its own files:
-//! `session PROGRAM FOLDER [--energies] [--end] [--store SAMPLE]` runs PROGRAM on random lists of calls in FOLDER, and holds
+//! `session PROGRAM FOLDER [--end] [--store SAMPLE]` runs PROGRAM on random lists of calls in FOLDER, and holds
 //! every answer, sample and force to the reference's. With --end it runs but one list, which goes to the last
 //! position. SAMPLE gets some of the lists with what they must give.
 
@@ -329,7 +329,6 @@ fn few_samples(answers: &[Answer]) -> bool {
 
 struct Comparison {
     rehearse: Rehearse,
-    energies: bool,
     counts: Counts,
     sample: Vec<String>,
 }
@@ -345,7 +344,7 @@ impl Comparison {
     /// One list on both sides; where its blocks are short, what it gave as the sample has it.
     fn list(&mut self, theme: Theme, turn: u64) -> Option<String> {
         let mut random = Random::new((theme as u64 + 1) << 32 | turn);
-        let list = lists::list(&mut random, theme, self.energies);
+        let list = lists::list(&mut random, theme);
         let (by_input, with_forces) = (turn % 5 == 0, turn % 8 != 0);
         let answers = console::answers(&list.instrument, &list.script);
         let made = self.rehearse.run(&list.instrument.bytes(), &list.script, by_input, with_forces);
@@ -391,12 +390,11 @@ impl Comparison {
 fn main() {
     let arguments: Vec<String> = std::env::args().skip(1).collect();
     let Some(([program, folder], options)) = arguments.split_first_chunk() else {
-        fail("usage: session PROGRAM FOLDER [--energies] [--end] [--store SAMPLE]".to_string());
+        fail("usage: session PROGRAM FOLDER [--end] [--store SAMPLE]".to_string());
     };
     let store = options.iter().position(|o| o == "--store").map(|i| options[i + 1].clone());
     let rehearse = Rehearse { program: Path::new(program).to_path_buf(), folder: Path::new(folder).to_path_buf() };
-    let energies = options.iter().any(|o| o == "--energies");
-    let mut comparison = Comparison { rehearse, energies, counts: Counts::default(), sample: Vec::new() };
+    let mut comparison = Comparison { rehearse, counts: Counts::default(), sample: Vec::new() };
     if options.iter().any(|o| o == "--end") {
         let _ = comparison.list(Theme::End, 0);
         comparison.counts.report();
