@@ -6,9 +6,11 @@
 mod common;
 #[path = "../compare/design.rs"]
 mod design;
+mod grand;
 #[allow(dead_code)]
 #[path = "../compare/instrument.rs"]
 mod instrument;
+#[allow(dead_code)]
 mod measure;
 #[allow(dead_code)]
 #[path = "../target/compare/model.rs"]
@@ -22,46 +24,11 @@ mod published;
 mod rendering;
 
 use common::all_alike;
-use design::LoopDesign;
-use instrument::{Common, Instrument, Key};
+use grand::{instrument, KEY};
+use instrument::{Instrument, Key};
 use measure::{measure, report, Measured};
 use model::{Event, Piano};
 use rendering::{Buffers, Score, Small};
-
-/// A hammer and strings of a grand at 48 kHz.
-fn instrument(h: u32, keys: usize, strings: usize, ap_count: usize) -> Instrument {
-    let common = Common {
-        fs: 48_000.0,
-        z: 7.5,
-        mass: 0.009,
-        stiffness: 10f64.powf(4.0 + 0.75 * h as f64),
-        eps: 0.1,
-        tau: 2e-5,
-        yz: 0.001_2,
-        rho: 1.0,
-        ramp_s: 0.02,
-        h,
-    };
-    let string = |i: usize| LoopDesign {
-        n_total: 100 + i,
-        ap_count,
-        phi: 3.0,
-        thiran_a: 0.1,
-        ap_a: -0.6,
-        loss_g: 0.998,
-        loss_c: 0.1,
-    };
-    let key = |k: usize| Key {
-        key: 40 + k as u8,
-        has_damper: true,
-        weight: 0.3,
-        damper_scale: 1.0,
-        strike_ratio: 0.12,
-        damper_ratio: 0.3,
-        strings: (0..strings).map(|i| string(3 * k + i)).collect(),
-    };
-    Instrument { common, keys: (0..keys).map(key).collect() }
-}
 
 fn published_piano(instrument: &Instrument) -> published::Piano {
     let c = &instrument.common;
@@ -174,7 +141,7 @@ impl Sides {
 /// Strikes of the first key, evenly apart.
 fn strikes(setup: &Setup) -> Vec<(usize, Event)> {
     let position = |i: usize| i * setup.samples / setup.strikes;
-    (0..setup.strikes).map(|i| (position(i), Event::NoteOn { key: 40, velocity: 3.0 })).collect()
+    (0..setup.strikes).map(|i| (position(i), Event::NoteOn { key: KEY, velocity: 3.0 })).collect()
 }
 
 struct Setup {
