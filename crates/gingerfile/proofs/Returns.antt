@@ -14,7 +14,6 @@ use Rattle.counting.specs.Every.{and-left}
 use Rattle.instrument.specs.declared.Instrument.{Instrument}
 use Rattle.instrument.specs.declared.ReadAnswer.{ReadAnswer}
 use Rattle.instrument.specs.File.{readOf, accepted}
-use Rattle.instrument.specs.Valid.{valid}
 use Rattle.instrument.specs.ValidLaws.{valid-counts}
 use Rattle.instrument.specs.Work.{cellsOf}
 use Rattle.encoding.specs.Accepted.{accepted-valid}
@@ -25,11 +24,12 @@ use Rattle.energies.specs.declared.EnergiesAnswer.{EnergiesAnswer}
 use Rattle.energies.specs.Energy.{EnergiesMeet}
 use Rattle.session_words.specs.declared.Read.{Read}
 use Rattle.session_words.specs.Session.{wordsOf, sessionOf, isSession, isEvent, ReadMeets, PutMeets}
+use Rattle.session_words.specs.Laws.{are-words}
 use Rattle.gingerfile.specs.declared.Reply.{Reply}
-use Rattle.gingerfile.specs.declared.Sizes.{Sizes}
 use Rattle.gingerfile.specs.declared.KeyEnergies.{KeyEnergies}
+use Rattle.gingerfile.specs.Laws.{Stays}
 use Rattle.gingerfile.specs.Energies.{energyOf, numberOf, noEnergies, flatOf, EnergiesCross}
-use Rattle.gingerfile.specs.Crossing.{refusedBy, replyOf, sizesOf, Keeps, Crosses, InsertCrosses, Opens, OpenCrosses}
+use Rattle.gingerfile.specs.Crossing.{refusedBy, replyOf, sizesOf, Keeps, Crosses, InsertCrosses, OpenCrosses}
 
 -- ---- the file
 
@@ -81,6 +81,7 @@ module _ (f w : List ℕ) (Same : Type 0) (Meets : Instrument → Session → Ou
         file = λ _. (er ∙ ap refusedBy (en ∙ ap (λ (x : ReadAnswer). x .refusal) eg), refl, same);
         record7 = λ z _. absurd (h (was f g eg z));
         calls = λ z _. absurd (h (was f g eg z));
+        stays = λ _. refl;
       }
 
   module _ (h : g .refusal ≡ 0) (rd : Read) (ed : ReadMeets w rd) where
@@ -90,10 +91,13 @@ module _ (f w : List ℕ) (Same : Type 0) (Meets : Instrument → Session → Ou
           file = λ z. absurd (z (now-is f g eg h));
           record7 = λ _ _. (er, refl, same);
           calls = λ _ z. absurd (true≢false (sym z ∙ sym (ed .answer) ∙ k));
+          stays = λ _. refl;
         }
 
-    pub crosses-call : rd .«is_session» ≡ true → (r : Reply) (w′ : List ℕ) (o : Outcome) → Meets (g .instrument) (rd .session) o → Keeps o r w′ → Crosses f w r w′ Same Meets
-    crosses-call k r w′ o m keeps =
+    -- `still`: a refused call leaves the session
+    pub crosses-call : ((i : Instrument) (s : Session) (o : Outcome) → Meets i s o → Stays i s o) → rd .«is_session» ≡ true → (r : Reply) (w′ : List ℕ) (o : Outcome)
+        → Meets (g .instrument) (rd .session) o → Keeps o r w′ → Crosses f w r w′ Same Meets
+    crosses-call still k r w′ o m keeps =
         record {
           file = λ z. absurd (z (now-is f g eg h));
           record7 = λ _ z. absurd (false≢true (sym z ∙ sym (ed .answer) ∙ k));
@@ -102,6 +106,9 @@ module _ (f w : List ℕ) (Same : Type 0) (Meets : Instrument → Session → Ou
             meets = subst (λ (x : ReadAnswer). Meets (x .instrument) (sessionOf w) o) eg (subst (λ (x : Session). Meets (g .instrument) x o) (ed .reads k) m);
             keeps = keeps;
           };
+          stays = λ not.
+              let same = still (g .instrument) (rd .session) o m (λ z. not (ap (λ (x : Reply). x .refusal) (keeps .reply) ∙ z)) in
+              keeps .words ∙ ap wordsOf (same ∙ ed .reads k) ∙ are-words w (sym (ed .answer) ∙ k);
         }
 
 -- ---- insert, whose event is numbers too
@@ -126,10 +133,10 @@ module _ (kind key : ℕ) (f w : List ℕ) (Same : Type 0) (Meets : Instrument �
         let c = crosses-record f w Same Meets g eg h rd ed k r er same in
         record { none = λ _ _. (er, refl, same); event = λ _. c; file = c .file }
 
-    pub insert-call : (t : Bool) → t ≡ isEvent kind key → t ≡ true → (rd : Read) → ReadMeets w rd → rd .«is_session» ≡ true → (r : Reply) (w′ : List ℕ) (o : Outcome)
+    pub insert-call : ((i : Instrument) (s : Session) (o : Outcome) → Meets i s o → Stays i s o) → (t : Bool) → t ≡ isEvent kind key → t ≡ true → (rd : Read) → ReadMeets w rd → rd .«is_session» ≡ true → (r : Reply) (w′ : List ℕ) (o : Outcome)
         → Meets (g .instrument) (rd .session) o → Keeps o r w′ → InsertCrosses kind key f w r w′ Same Meets
-    insert-call t et k rd ed l r w′ o m keeps =
-        let c = crosses-call f w Same Meets g eg h rd ed l r w′ o m keeps in
+    insert-call still t et k rd ed l r w′ o m keeps =
+        let c = crosses-call f w Same Meets g eg h rd ed still l r w′ o m keeps in
         record { none = λ z _. absurd (true≢false (sym k ∙ et ∙ z)); event = λ _. c; file = c .file }
 
 -- ---- open

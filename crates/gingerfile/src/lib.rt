@@ -1,7 +1,7 @@
 // The piano for a program in C or Rust: numbers and lent slices alone cross. The instrument crosses as its file's bytes, the session as 541 words (crate session_words), an event by its
 // numbers. Each call reads the file and the words, makes the session's call, and writes the words; a refused call changes nothing, the words neither.
 ghost use mathlib.Core.Path.{_≡_};
-ghost use Prim.Native.Nat.{_+_, _*_, _≤_};
+ghost use Prim.Native.Nat.{_*_};
 ghost use mathlib.Core.List.{map};
 ghost use lib.ListN.{length};
 ghost use Rattle.decimator.specs.Decimate.{outputLength, DecimateMeets};

@@ -1,7 +1,7 @@
 -- What owning a piano tells: every premise of the law that it is read back. Assumes nothing.
-use mathlib.Core.Path.{_≡_, sym, _∙_}
+use mathlib.Core.Path.{sym, _∙_}
 use mathlib.Core.List.{List, [], _∷_, map}
-use lib.ListN.{length, length-map}
+use lib.ListN.{length-map}
 use mir.Val.{Val}
 use base.Fml.{Fml}
 use denote.Array.{each}

@@ -1,9 +1,8 @@
 -- What owning a session tells: every premise of the law that it is read back. Assumes nothing.
-use mathlib.Core.Path.{_≡_, sym, _∙_}
-use mathlib.Core.List.{List, [], _∷_, map}
-use lib.ListN.{length, length-map}
+use mathlib.Core.Path.{sym, _∙_}
+use mathlib.Core.List.{List, [], _∷_}
+use lib.ListN.{length-map}
 use mir.Val.{Val}
-use base.Fml.{Fml}
 use denote.Array.{Array, each}
 use denote.Floats.{passes}
 use denote.Laws.{Is}

@@ -1,18 +1,17 @@
 -- Every session is read back from its words, and exactly the words that some session has are told to be a session's. `FitSession` says what every value of the record's type has and a
 -- definition alone cannot see. Assumes nothing.
 use mathlib.Core.Path.{_≡_, refl, sym, ap, _∙_}
-use mathlib.Core.Bool.{Bool, true, false, cond, _&&_}
+use mathlib.Core.Bool.{Bool, true, false, cond}
 use mathlib.Core.List.{List, [], _∷_, _++_, append-nil}
-use Prim.Native.Nat.{ℕ, zero, suc, _+_, _*_, _%_, _<_}
+use Prim.Native.Nat.{ℕ, suc, _+_, _*_, _%_, _<_}
 use native.Mathlib.Omega.{arith}
-use lib.Dec.{T, eqb}
-use lib.Ieee.{Float, binary64, fits, ofBits, toBits}
+use lib.Dec.{eqb}
+use lib.Ieee.{Float, binary64, ofBits}
 use lib.Ieee.Bits.{ofBits-toBits, ofBits-fits}
 use lib.ListN.{length, getD, drop, length-append}
 use lib.Seq.{drop-at, drop-drop, ext-getD}
 use borrow.Author.Tests.{eq-eqb, eqb-true}
 use Rattle.counting.specs.Every.{and-left, and-right}
-use Rattle.counting.specs.Below.{allBelow}
 use Rattle.counting.specs.Laws.{all-build, all-at}
 use Rattle.score.specs.declared.Event.{Event}
 use Rattle.score.specs.declared.Event.the-variants.{NoteOn, NoteOff, Pedal, HandDamp}
@@ -20,7 +19,7 @@ use Rattle.score.specs.declared.TimedEvent.{TimedEvent}
 use Rattle.cues.specs.declared.Cue.{Cue}
 use Rattle.session_record.specs.declared.Session.{Session}
 use Rattle.piano_words.specs.Items.{joined, itemsOf, AllOf, joined-length, items-back, items-length, all-items}
-use Rattle.piano_words.specs.Piano.{bitOf, flagWord, pianoWords, pianoOf}
+use Rattle.piano_words.specs.Piano.{pianoWords, pianoOf}
 use Rattle.piano_words.specs.Back.{Fit, FitPiano, flag-back, piano-length, piano-back, fit-piano-of}
 use Rattle.session_words.specs.Session.{eventOf, eventWords, timedWords, timedOf, cueWords, cueOf, wordsOf, sessionOf, isSession}
 

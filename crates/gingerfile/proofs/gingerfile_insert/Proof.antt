@@ -1,4 +1,5 @@
 use mathlib.Core.Path.{refl}
+use Rattle.gingerfile.specs.Laws.{insert-stays}
 use Rattle.gingerfile.proofs.Returns.{session-long, insert-file, insert-none, insert-record, insert-call}
 use borrow.Author.Needs.{needs}
 use Rattle.gingerfile.proofs.gingerfile_insert.Statement.{statement}
@@ -43,7 +44,7 @@ returns-2 : tie.Need-returns-2
 returns-2 c =
     let z = c .before .before .before .before .before .before .before .before .before .before .before .before .before .before .before .before .before .before .before .before .before .before .args in
     insert-call (z .kind) (z .key) (z .file .now) (z .words .now) _ _ (c .before .before .before .before .before .before .before .before .before .before .before .before .before .before .before .before .before .before .read .result) (c .before .before .before .before .before .before .before .before .before .before .before .before .before .before .before .before .before .before .read .ensures) (c .before .before .before .before .before .before .before .before .before .before .before .before .before .before .before .before .if1 .left)
-    _ (c .before .before .before .before .before .before .before .before .before .before .before .before .is-event .ensures) (c .before .before .before .before .before .before .before .before .before .before .before .if3 .taken) (c .before .before .before .before .before .before .before .before .before .before .before .before .before .before .session-at .result) (c .before .before .before .before .before .before .before .before .before .before .before .before .before .before .session-at .ensures) (c .before .before .before .before .before .before .before .before .before .before .before .before .before .if2 .taken) _ _ (c .before .before .before .before .before .before .insert .result)
+    (λ i s o m. insert-stays i s o _ _ _ m) _ (c .before .before .before .before .before .before .before .before .before .before .before .before .is-event .ensures) (c .before .before .before .before .before .before .before .before .before .before .before .if3 .taken) (c .before .before .before .before .before .before .before .before .before .before .before .before .before .before .session-at .result) (c .before .before .before .before .before .before .before .before .before .before .before .before .before .before .session-at .ensures) (c .before .before .before .before .before .before .before .before .before .before .before .before .before .if2 .taken) _ _ (c .before .before .before .before .before .before .insert .result)
     (rw (c .before .before .before .before .before .before .before .before .event-of .ensures) at (c .before .before .before .before .before .before .insert .ensures)) (c .before .before .keep .ensures)
 
 refused-requires-2 : tie.Need-refused-requires-2

@@ -1,9 +1,8 @@
 -- The invariant: the first i are read. Assumes nothing.
-use mathlib.Core.Path.{_≡_, refl, ap, _∙_}
+use mathlib.Core.Path.{_≡_, refl, ap}
 use Prim.Native.Nat.{ℕ, _+_, _-_, _≤_}
 use native.Mathlib.Omega.{arith}
 use lib.Dec.{eqb}
-use lib.Ieee.{binary64, ofBits}
 use lib.ListN.{length, take, drop, length-set}
 use Rattle.piano_words.specs.Items.{itemsOf, items-turn, items-end}
 use Rattle.piano_words.specs.Piano.{flagOf}

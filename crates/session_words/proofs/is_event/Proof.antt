@@ -1,6 +1,5 @@
 use borrow.Author.Tests.{eq-eqb, ne-eqb}
 use Rattle.session_words.specs.Session.{isEvent}
-use borrow.Author.Needs.{needs}
 use Rattle.session_words.proofs.is_event.Statement.{statement}
 use Rattle.session_words.proofs.is_event.Tie as tie
 

@@ -48,7 +48,6 @@ same-length c = search needs
 returns : tie.Need-returns
 unfolding eventWords
 returns c =
-    let z = c .before .before .before .before .before .before .before .before .before .args in
     rw (c .before .before .before .before .before .before .event .given .1, ← (c .before .before .before .bits-of .ensures)) (c .before .before .put-three .ensures)
 
 same-length-2 : tie.Need-same-length-2

@@ -46,7 +46,6 @@ loop-again c =
 
 returns : tie.Need-returns Inv-loop μ-loop
 returns c =
-    let z = c .before .before .args in
     let l = c .before .loop in
     let n : l .i ≡ 541 = omega arith in
     rw n at (l .inv .1)
