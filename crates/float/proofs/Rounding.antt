@@ -1,22 +1,22 @@
 -- `roundAway` by cases, as the code tests them. Assumes nothing.
 use mathlib.Core.Path.{_≡_, refl, sym, ap, _∙_, subst}
-use Prim.Native.Nat.{ℕ, zero, suc, _+_, _-_, _*_, _/_, _%_, _^_, _≤_, _<_, min}
-use native.Mathlib.Nat.{le-trans, le-of-eq, le-of-lt, le-of-suc-le-suc, lt-of-not-le, lt-of-lt-of-le, lt-of-le-of-lt, lt-irrefl, lt-of-mul-lt-mul-right, mul-one, one-mul, mul-comm, mul-assoc, mul-left-comm, mul-right-comm, mul-lt-mul-of-pos-right, mul-le-mul-right, mul-le-mul-left, mul-pos, zero-mul, zero-lt-suc, add-mul-div-right, div-div-eq-div-mul, div-lt-iff-lt-mul, le-div-iff-mul-le, div-one, pow-succ'}
+use Prim.Native.Nat.{ℕ, zero, suc, _+_, _-_, _*_, _/_, _^_, _≤_, _<_, min}
+use native.Mathlib.Nat.{le-trans, le-of-eq, le-of-suc-le-suc, lt-of-lt-of-le, lt-of-le-of-lt, lt-of-mul-lt-mul-right, mul-one, one-mul, mul-comm, mul-assoc}
+use native.Mathlib.Nat.{mul-left-comm, mul-right-comm, mul-lt-mul-of-pos-right, mul-le-mul-right, mul-le-mul-left, zero-mul, add-mul-div-right}
+use native.Mathlib.Nat.{div-div-eq-div-mul, div-lt-iff-lt-mul, le-div-iff-mul-le, div-one, pow-succ'}
 use native.Mathlib.Omega.{arith}
-use mathlib.Core.Bool.{Bool, true, false, not, cond, _&&_, true≢false, false≢true}
+use mathlib.Core.Bool.{Bool, true, false, not, true≢false, false≢true}
 use lib.IntN.{ℤ, pos, negsuc}
-use lib.Dec.{T, leb, ltb, eqb, lt→ltb, ltb→lt, nltb→le, leb→le, lit<, lit≤}
+use lib.Dec.{T, ltb, lt→ltb, ltb→lt, nltb→le, lit≤}
 use lib.Arith.{le-zero}
-use lib.Pow.{pow-add, pow-pos, pow-mono, pow-lt}
-use lib.Ieee.{Float, nan, inf, fin, binary64, up, down, mul, lt, fits, toUnsigned, ofBits, inFloat}
-use lib.Ieee.Fits.{up-pos, down-pos, and-l, and-r}
+use lib.Pow.{pow-pos}
+use lib.Ieee.{Float, nan, inf, fin, binary64, up, down, mul, lt, fits, toUnsigned}
+use lib.Ieee.Fits.{down-pos}
 use lib.Ieee.Exact.{HasValue, round-exact}
 use lib.Ieee.Nearest.{div-same}
-use lib.Ieee.Bits.{is-false}
 use Rattle.float.specs.Float.{roundAway}
-
-abbrev Zero : Float
-Zero = fin false 0 (pos 0)
+use Rattle.float.specs.Order.{nought, under-power}
+use Rattle.float.specs.Units.{digits, place}
 
 abbrev pub Two : Float
 Two = fin false 1 (pos 1)
@@ -34,7 +34,7 @@ Plain x = (m : ℕ) × (e : ℤ) × (x ≡ fin false (suc m) e)
 none : (a b : ℕ) → a < b → b ≡ 0 → ⊥
 none a b h e = omega arith
 
-pub plain : (x : Float) (k : ℕ) → lt Zero x ≡ true → lt x (fin false 1 (pos k)) ≡ true → Plain x
+pub plain : (x : Float) (k : ℕ) → lt nought x ≡ true → lt x (fin false 1 (pos k)) ≡ true → Plain x
 unfolding lt
 plain nan k h l = absurd (false≢true h)
 plain (inf true) k h l = absurd (false≢true h)
@@ -43,51 +43,31 @@ plain (fin true m e) k h l = absurd (false≢true h)
 plain (fin false zero e) k h l = absurd (none (0 * down e) (0 * up e * 1) (ltb→lt (0 * down e) (0 * up e * 1) (yes (ltb (0 * down e) (0 * up e * 1)) h)) (ap (λ (y : ℕ). y * 1) (zero-mul (up e))))
 plain (fin false (suc m) e) k h l = (m, e, refl)
 
-below-is : (a b d : ℕ) → a * 1 < 1 * b * d → a < b * d
-below-is a b d h = subst (λ (y : ℕ). y < b * d) (mul-one a) (subst (λ (y : ℕ). a * 1 < y * d) (one-mul b) h)
-
 above-is : (a b d : ℕ) → 1 * b * d ≤ a * 1 → b * d ≤ a
 above-is a b d h = subst (λ (y : ℕ). b * d ≤ y) (mul-one a) (subst (λ (y : ℕ). y * d ≤ a * 1) (one-mul b) h)
-
-under : (m : ℕ) (e : ℤ) (k : ℕ) → lt (fin false m e) (fin false 1 (pos k)) ≡ true → m * up e < 2 ^ k * down e
-unfolding lt
-under m e k h = below-is (m * up e) (2 ^ k) (down e) (ltb→lt (m * up e * 1) (1 * 2 ^ k * down e) (yes (ltb (m * up e * 1) (1 * 2 ^ k * down e)) h))
 
 over : (m : ℕ) (e : ℤ) (k : ℕ) → lt (fin false m e) (fin false 1 (pos k)) ≡ false → 2 ^ k * down e ≤ m * up e
 unfolding lt
 over m e k h = above-is (m * up e) (2 ^ k) (down e) (nltb→le (m * up e * 1) (1 * 2 ^ k * down e) (no (ltb (m * up e * 1) (1 * 2 ^ k * down e)) h))
 
--- ---- a value that fits
-digits : (s : Bool) (m : ℕ) (e : ℤ) → T (fits binary64 (fin s (suc m) e)) → (suc m < 2 ^ 53) × (down e ≤ 2 ^ 1074)
-unfolding fits
-digits s m e h =
-    let A = eqb (suc m % 2) 1 in
-    let B = ltb (suc m) (2 ^ 53) in
-    let C = leb (down e) (2 ^ 1074) in
-    let D = ltb (suc m * up e) (2 ^ 1024 * down e) in
-    (ltb→lt (suc m) (2 ^ 53) (and-r A B (and-l (A && B) C (and-l (A && B && C) D h))), leb→le (down e) (2 ^ 1074) (and-r (A && B) C (and-l (A && B && C) D h)))
-
--- twice a power of two, in units of the smallest value
-pow-le-back : (a l : ℕ) → 2 ^ a ≤ 2 ^ l → a ≤ l
-pow-le-back a l h = le-of-suc-le-suc (lt-of-not-le (λ (g : suc l ≤ a). lt-irrefl (2 ^ l) (lt-of-lt-of-le (pow-lt g) h)))
-
-place : (e : ℤ) → down e ≤ 2 ^ 1074 → (j : ℕ) × (2 * up e * 2 ^ 1074 ≡ 2 ^ j * down e)
-place (pos a) h = (suc a + 1074, ap (λ (y : ℕ). y * 2 ^ 1074) (sym (pow-succ' 2 a)) ∙ sym (pow-add 2 (suc a) 1074) ∙ sym (mul-one (2 ^ (suc a + 1074))))
-place (negsuc a) h = (1075 - suc a, ap (λ (n : ℕ). 2 ^ n) (sum a (pow-le-back (suc a) 1074 h)) ∙ pow-add 2 (1075 - suc a) (suc a))
-  where
-    sum : (a : ℕ) → suc a ≤ 1074 → 1075 ≡ 1075 - suc a + suc a
-    sum a h = omega arith
+-- ---- twice a value that fits
+twice-place : (e : ℤ) → down e ≤ 2 ^ 1074 → (j : ℕ) × (2 * up e * 2 ^ 1074 ≡ 2 ^ j * down e)
+twice-place e h =
+    let p = place e h in
+    let j = p .0 in
+    (suc j, mul-assoc 2 (up e) (2 ^ 1074) ∙ ap (λ (y : ℕ). 2 * y) (p .1) ∙ sym (mul-assoc 2 (2 ^ j) (down e)) ∙ ap (λ (y : ℕ). y * down e) (sym (pow-succ' 2 j)))
 
 doubled : (m : ℕ) (e : ℤ) → T (fits binary64 (fin false (suc m) e)) → suc m * up e < 2 ^ 62 * down e → HasValue (mul binary64 Two (fin false (suc m) e)) false (2 * (suc m * up e)) (1 * down e)
 unfolding mul
 doubled m e f l =
     let n = suc m in
     let d = digits false m e f in
-    let p = place e (d .1) in
+    let p = twice-place e (d .1) in
     let j = p .0 in
     let D = 1 * down e in
     let eq : 2 * (n * up e) * 2 ^ 1074 ≡ n * 2 ^ j * D =
-    ap (λ (y : ℕ). y * 2 ^ 1074) (mul-left-comm 2 n (up e)) ∙ mul-assoc n (2 * up e) (2 ^ 1074) ∙ ap (λ (y : ℕ). n * y) (p .1) ∙ sym (mul-assoc n (2 ^ j) (down e)) ∙ ap (λ (y : ℕ). n * 2 ^ j * y) (sym (one-mul (down e))) in
+    ap (λ (y : ℕ). y * 2 ^ 1074) (mul-left-comm 2 n (up e)) ∙ mul-assoc n (2 * up e) (2 ^ 1074)
+    ∙ ap (λ (y : ℕ). n * y) (p .1) ∙ sym (mul-assoc n (2 ^ j) (down e)) ∙ ap (λ (y : ℕ). n * 2 ^ j * y) (sym (one-mul (down e))) in
     let pd : 0 < D = subst (λ (y : ℕ). 0 < y) (sym (one-mul (down e))) (down-pos e) in
     let small : n * 2 ^ j < 2 ^ 2098 =
     lt-of-mul-lt-mul-right D (lt-of-le-of-lt (le-of-eq (sym eq)) (room (n * up e) (down e) D l (one-mul (down e)))) in
@@ -96,7 +76,9 @@ doubled m e f l =
     room : (a d D : ℕ) → a < 2 ^ 62 * d → D ≡ d → 2 * a * 2 ^ 1074 < 2 ^ 2098 * D
     room a d D h e =
         let k : 2 * a < 2 ^ 63 * d = omega arith in
-        lt-of-lt-of-le (mul-lt-mul-of-pos-right k (pow-pos 1074)) (le-trans (le-of-eq (mul-right-comm (2 ^ 63) d (2 ^ 1074))) (le-trans (mul-le-mul-right d (lit≤ tt)) (le-of-eq (ap (λ (y : ℕ). 2 ^ 2098 * y) (sym e)))))
+        lt-of-lt-of-le (mul-lt-mul-of-pos-right k (pow-pos 1074))
+        (le-trans (le-of-eq (mul-right-comm (2 ^ 63) d (2 ^ 1074)))
+        (le-trans (mul-le-mul-right d (lit≤ tt)) (le-of-eq (ap (λ (y : ℕ). 2 ^ 2098 * y) (sym e)))))
 
 -- ---- the whole part of a value a / c
 whole-part : (y : Float) (a c : ℕ) → 0 < c → HasValue y false a c → toUnsigned 64 y ≡ min (a / c) (2 ^ 64 - 1)
@@ -112,7 +94,8 @@ in-range nan a c p l h = absurd h
 in-range (inf s) a c p l h = absurd h
 in-range (fin true m e) a c p l h = absurd (true≢false (h .0))
 in-range (fin false m e) a c p l h =
-    let k : m * up e < 2 ^ 64 * down e = lt-of-mul-lt-mul-right c (lt-of-le-of-lt (le-of-eq (h .1)) (lt-of-lt-of-le (mul-lt-mul-of-pos-right l (down-pos e)) (le-of-eq (mul-right-comm (2 ^ 64) c (down e))))) in (
+    let k : m * up e < 2 ^ 64 * down e =
+    lt-of-mul-lt-mul-right c (lt-of-le-of-lt (le-of-eq (h .1)) (lt-of-lt-of-le (mul-lt-mul-of-pos-right l (down-pos e)) (le-of-eq (mul-right-comm (2 ^ 64) c (down e))))) in (
       lt→ltb 0 (1 * down e + m * up e * 1) (some (1 * down e) (m * up e * 1) (subst (λ (y : ℕ). 0 < y) (sym (one-mul (down e))) (down-pos e))),
       lt→ltb (m * up e * 1) (2 ^ 64 * down e) (subst (λ (y : ℕ). y < 2 ^ 64 * down e) (sym (mul-one (m * up e))) k),
     )
@@ -166,11 +149,13 @@ by-doubling m e f l =
     halved : (n : ℕ) → n < 2 ^ 63 → (n + 1) / 2 < 2 ^ 63
     halved n h = omega arith
 
-pub doubling : (x : Float) → T (fits binary64 x) → lt Zero x ≡ true → lt x (fin false 1 (pos 62)) ≡ true → Doubled x
+pub doubling : (x : Float) → T (fits binary64 x) → lt nought x ≡ true → lt x (fin false 1 (pos 62)) ≡ true → Doubled x
 doubling x f h l =
     let p = plain x 62 h l in
     let e = p .2 in
-    subst Doubled (sym e) (by-doubling (p .0) (p .1) (subst (λ (v : Float). T (fits binary64 v)) e f) (under (suc (p .0)) (p .1) 62 (ap (λ (v : Float). lt v (fin false 1 (pos 62))) (sym e) ∙ l)))
+    subst Doubled (sym e)
+    (by-doubling (p .0) (p .1) (subst (λ (v : Float). T (fits binary64 v)) e f)
+    (under-power (suc (p .0)) (p .1) 62 (ap (λ (v : Float). lt v (fin false 1 (pos 62))) (sym e) ∙ l)))
 
 -- from 2 ^ 62 on a value is a whole number
 by-whole : (m : ℕ) (e : ℤ) → T (fits binary64 (fin false (suc m) e)) → 2 ^ 62 * down e ≤ suc m * up e → toUnsigned 64 (fin false (suc m) e) ≡ roundAway (fin false (suc m) e)
@@ -180,26 +165,30 @@ by-whole m (pos k) f l = ap (λ (n : ℕ). min n (2 ^ 64 - 1)) (div-one (suc m *
     half-odd : (n : ℕ) → (2 * n + 1) / 2 ≡ n
     half-odd n = omega arith
 by-whole m (negsuc a) f l =
-    absurd (few (suc m) (2 ^ 62 * 2 ^ suc a) (digits false m (negsuc a) f .0) (le-trans l (le-of-eq (mul-one (suc m)))) (le-trans (le-of-eq (sym (mul-one (2 ^ 62)))) (mul-le-mul-left (2 ^ 62) (pow-pos (suc a)))))
+    absurd
+    (few (suc m) (2 ^ 62 * 2 ^ suc a) (digits false m (negsuc a) f .0) (le-trans l (le-of-eq (mul-one (suc m))))
+    (le-trans (le-of-eq (sym (mul-one (2 ^ 62)))) (mul-le-mul-left (2 ^ 62) (pow-pos (suc a)))))
   where
     few : (n p : ℕ) → n < 2 ^ 53 → p ≤ n → 2 ^ 62 ≤ p → ⊥
     few n p a b c = omega arith
 
-pub wholly : (x : Float) → T (fits binary64 x) → lt Zero x ≡ true → lt x (fin false 1 (pos 62)) ≡ false → lt x (fin false 1 (pos 64)) ≡ true → toUnsigned 64 x ≡ roundAway x
+pub wholly : (x : Float) → T (fits binary64 x) → lt nought x ≡ true → lt x (fin false 1 (pos 62)) ≡ false → lt x (fin false 1 (pos 64)) ≡ true → toUnsigned 64 x ≡ roundAway x
 wholly x f h n l =
     let p = plain x 64 h l in
     let e = p .2 in
     subst (λ (v : Float). toUnsigned 64 v ≡ roundAway v) (sym e)
     (by-whole (p .0) (p .1) (subst (λ (v : Float). T (fits binary64 v)) e f) (over (suc (p .0)) (p .1) 62 (ap (λ (v : Float). lt v (fin false 1 (pos 62))) (sym e) ∙ n)))
 
-pub wholly-asks : (x : Float) → lt Zero x ≡ true → lt x (fin false 1 (pos 64)) ≡ true → T (lt (fin true 1 (pos 0)) x) × T (lt x (fin false 1 (pos 64)))
+pub wholly-asks : (x : Float) → lt nought x ≡ true → lt x (fin false 1 (pos 64)) ≡ true → T (lt (fin true 1 (pos 0)) x) × T (lt x (fin false 1 (pos 64)))
 wholly-asks x h l =
     let p = plain x 64 h l in
     let e = p .2 in
     let a = suc (p .0) * up (p .1) in
-    in-range x a (down (p .1)) (down-pos (p .1)) (under (suc (p .0)) (p .1) 64 (ap (λ (v : Float). lt v (fin false 1 (pos 64))) (sym e) ∙ l)) (subst (λ (v : Float). HasValue v false a (down (p .1))) (sym e) (refl, refl))
+    in-range x a (down (p .1)) (down-pos (p .1))
+    (under-power (suc (p .0)) (p .1) 64 (ap (λ (v : Float). lt v (fin false 1 (pos 64))) (sym e) ∙ l))
+    (subst (λ (v : Float). HasValue v false a (down (p .1))) (sym e) (refl, refl))
 
-pub beyond : (x : Float) → lt Zero x ≡ true → lt x (fin false 1 (pos 64)) ≡ false → 2 ^ 64 - 1 ≡ roundAway x
+pub beyond : (x : Float) → lt nought x ≡ true → lt x (fin false 1 (pos 64)) ≡ false → 2 ^ 64 - 1 ≡ roundAway x
 unfolding lt roundAway
 beyond nan h l = absurd (false≢true h)
 beyond (inf true) h l = absurd (false≢true h)
@@ -216,7 +205,7 @@ beyond (fin false m e) h l = sym (capped ((2 * (m * up e) + down e) / (2 * down 
     grown : (a d : ℕ) → 2 ^ 64 * d ≤ a → 2 ^ 64 * (2 * d) ≤ 2 * a + d
     grown a d h = omega arith
 
-pub nothing : (x : Float) → lt Zero x ≡ false → 0 ≡ roundAway x
+pub nothing : (x : Float) → lt nought x ≡ false → 0 ≡ roundAway x
 unfolding lt roundAway
 nothing nan h = refl
 nothing (inf true) h = refl

@@ -1,2 +1,5 @@
 pub mod Float
 pub mod Numbers
+pub mod Order
+pub mod Units
+pub mod Difference

@@ -1,1 +1,2 @@
 pub mod Power
+pub mod Monotone

@@ -2,23 +2,26 @@
 use mathlib.Core.Path.{_≡_, refl, sym, ap, _∙_, subst}
 use mathlib.Core.Logic.{_⊎_, inl, inr}
 use Prim.Native.Nat.{ℕ, zero, suc, _+_, _-_, _*_, _/_, _%_, _^_, _≤_, _<_}
-use native.Mathlib.Nat.{le-trans, le-of-eq, le-of-lt, lt-of-lt-of-le, lt-of-le-of-lt, lt-irrefl, mul-comm, mul-assoc, mul-one, mul-le-mul, mul-le-mul-right, mul-lt-mul-of-pos-right, mul-mul-mul-comm, mul-pos, add-mul, zero-mul, eq-of-mul-eq-mul-right, zero-lt-suc, eq-or-lt-of-le, eq-zero-or-pos, lt-of-mul-lt-mul-right, mul-lt-mul-of-pos-left}
+use native.Mathlib.Nat.{le-trans, le-of-eq, le-of-lt, lt-of-lt-of-le, lt-of-le-of-lt, lt-irrefl, mul-assoc, mul-le-mul, mul-le-mul-right}
+use native.Mathlib.Nat.{mul-lt-mul-of-pos-right, mul-mul-mul-comm, mul-pos, add-mul, zero-mul, eq-of-mul-eq-mul-right, zero-lt-suc, eq-or-lt-of-le}
+use native.Mathlib.Nat.{eq-zero-or-pos, lt-of-mul-lt-mul-right, mul-lt-mul-of-pos-left}
 use native.Mathlib.Omega.{arith}
-use mathlib.Core.Bool.{Bool, true, false, not, cond, _&&_, false≢true}
-use lib.IntN.{ℤ, pos, negsuc}
-use lib.Dec.{T, leb, ltb, eqb, lt→ltb, ltb→lt, leb→le}
-use lib.Pow.{pow-add, pow-pos, pow-mono, pow-lt, shl-lt}
-use lib.Ieee.{Float, nan, inf, fin, binary64, up, down, size, units, fits, ofBits, toBits, lt}
-use lib.Ieee.Fits.{up-pos, down-pos, and-l, and-r}
+use mathlib.Core.Bool.{true, false}
+use lib.Dec.{T, lt→ltb, ltb→lt}
+use lib.Pow.{pow-add, pow-pos, pow-mono, shl-lt}
+use lib.Ieee.{Float, nan, inf, fin, binary64, up, down, units, fits, ofBits, toBits, lt}
+use lib.Ieee.Fits.{up-pos, down-pos}
 use lib.Ieee.Positive.{positive, first-pos}
 use lib.Ieee.Exact.{HasValue}
 use lib.Ieee.Bits.{ofBits-toBits, is-true}
-use Rattle.root.specs.Root.{wholeRoot, rootUnits, rootOf}
+use Rattle.float.specs.Units.{rep}
+use Rattle.float.specs.Order.{nought}
+use Rattle.root.specs.Root.{wholeRoot, rootOf}
 use Rattle.root.specs.Steps.{nearestRoot, bitUnits, Scaled, Paired}
 use Rattle.root.specs.Law.{Number, CorrectlyRounded, SquareRoot}
 use Rattle.root.proofs.Squares.{Root, sq-odd, sq-suc, is-root, round-down, round-up, lt-or-ge}
 use Rattle.root.proofs.Values.{Range, root-range, root-at, nearest-range, root-of-value, the-value, the-fit, value-bits}
-use Rattle.root.proofs.Patterns.{Zero, shift-is, split-even, above-zero-bits, value-of-bits, top-of-bits, unsigned, scaled-low, scaled-high, paired-odd}
+use Rattle.root.proofs.Patterns.{shift-is, split-even, above-zero-bits, value-of-bits, top-of-bits, unsigned, scaled-low, scaled-high, paired-odd}
 
 -- ---- the rounded root of n, by squares
 pub nearest-bounds : (n q : ℕ) → q ≡ nearestRoot n → Range n → (q * q < n + q) × (n ≤ q * q + q)
@@ -44,25 +47,8 @@ nearest-bounds n q e v = go (lt-or-ge (w * w + w) n)
         down' w l p g = (omega arith, g)
 
 -- ---- a number of the format in units, from 2 ^ (52 + k) on, is a multiple of 2 ^ k
-pub placed : (e : ℤ) (m Y : ℕ) → down e ≤ 2 ^ 1074 → m * up e * 2 ^ 1074 ≡ Y * down e → (j : ℕ) × (Y ≡ m * 2 ^ j)
-placed (pos a) m Y h v = (a + 1074, sym (mul-one Y) ∙ sym v ∙ shift-is m a 1074 (a + 1074) refl)
-placed (negsuc a) m Y h v =
-    let l : suc a ≤ 1074 = pow-le-back (suc a) 1074 h in
-    let e : 1074 - suc a + suc a ≡ 1074 = back a l in
-    (1074 - suc a, eq-of-mul-eq-mul-right (2 ^ suc a) (pow-pos (suc a)) Y (m * 2 ^ (1074 - suc a)) (sym v ∙ ap (λ (x : ℕ). x * 2 ^ 1074) (mul-one m) ∙ sym (shift-is m (1074 - suc a) (suc a) 1074 e)))
-  where
-    back : (a : ℕ) → suc a ≤ 1074 → 1074 - suc a + suc a ≡ 1074
-    back a h = omega arith
-
-    pow-le-back : (a l : ℕ) → 2 ^ a ≤ 2 ^ l → a ≤ l
-    pow-le-back a l h = go (lt-or-ge l a)
-      where
-        go : (l < a) ⊎ (a ≤ l) → a ≤ l
-        go (inl g) = absurd (lt-irrefl (2 ^ l) (lt-of-lt-of-le (pow-lt g) h))
-        go (inr g) = g
-
-digits : (m j k Y : ℕ) → m < 2 ^ 53 → Y ≡ m * 2 ^ j → 2 ^ (52 + k) ≤ Y → (t : ℕ) × (Y ≡ t * 2 ^ k)
-digits m j k Y h e l = go (lt-or-ge j k)
+multiple-from : (m j k Y : ℕ) → m < 2 ^ 53 → Y ≡ m * 2 ^ j → 2 ^ (52 + k) ≤ Y → (t : ℕ) × (Y ≡ t * 2 ^ k)
+multiple-from m j k Y h e l = go (lt-or-ge j k)
   where
     go : (j < k) ⊎ (k ≤ j) → (t : ℕ) × (Y ≡ t * 2 ^ k)
     go (inl g) = absurd (lt-irrefl Y (lt-of-lt-of-le (subst (λ (x : ℕ). x < 2 ^ (53 + j)) (sym e) (shl-lt 53 j h)) (le-trans (pow-mono (more j k g)) l)))
@@ -75,18 +61,7 @@ digits m j k Y h e l = go (lt-or-ge j k)
         less j k h = omega arith
 
 multiple : (y : Float) (Y k : ℕ) → Number y Y → 2 ^ (52 + k) ≤ Y → (t : ℕ) × (Y ≡ t * 2 ^ k)
-unfolding fits
-multiple nan Y k v l = absurd (v .1)
-multiple (inf s) Y k v l = absurd (v .1)
-multiple (fin s zero e) Y k v l =
-    absurd (lt-irrefl 0 (subst (λ (x : ℕ). 0 < x) (sym (v .1 .1) ∙ ap (λ (x : ℕ). x * 2 ^ 1074) (zero-mul (up e)) ∙ zero-mul (2 ^ 1074)) (mul-pos (lt-of-lt-of-le (pow-pos (52 + k)) l) (down-pos e))))
-multiple (fin s (suc m) e) Y k v l =
-    let A = eqb (suc m % 2) 1 in
-    let B = ltb (suc m) (2 ^ 53) in
-    let C = leb (down e) (2 ^ 1074) in
-    let f = and-l (A && B && C) (ltb (suc m * up e) (2 ^ 1024 * down e)) (v .0) in
-    let p = placed e (suc m) Y (leb→le (down e) (2 ^ 1074) (and-r (A && B) C f)) (v .1 .1) in
-    digits (suc m) (p .0) k Y (ltb→lt (suc m) (2 ^ 53) (and-r A B (and-l (A && B) C f))) (p .1) l
+multiple y Y k v l = let r = rep y Y (v .0) (v .1) in multiple-from (r .0) (r .1) k Y (r .2) (r .3) l
 
 -- ---- the middles' squares, p being 2 ^ k
 squares-lt : (a b : ℕ) → a < b → a * a < b * b
@@ -195,7 +170,7 @@ pair-of b p l = elim (eq-zero-or-pos (b / 2 ^ 52)) [
       | inr o ↦ (m * 2, g - 1, paired-odd b m g v (apart (g % 2) o))
     ]
 
-positive-above : (x : Float) → T (positive x) → lt Zero x ≡ true
+positive-above : (x : Float) → T (positive x) → lt nought x ≡ true
 unfolding lt
 positive-above nan p = absurd p
 positive-above (inf s) p = absurd p
@@ -223,7 +198,7 @@ finite-bits x f p = go (lt-or-ge b 0x7ff0_0000_0000_0000)
 pub root-correct : (x : Float) → T (fits binary64 x) → T (positive x) → CorrectlyRounded x (rootOf x)
 root-correct x f p =
     let b = toBits binary64 x in
-    let h : lt Zero x ≡ true = positive-above x p in
+    let h : lt nought x ≡ true = positive-above x p in
     let l : b < 0x7ff0_0000_0000_0000 = finite-bits x f p in
     let s = pair-of b (above-zero-bits x f h) l in
     let m = s .0 in
@@ -282,8 +257,12 @@ only-one x r t c d = same-number r t (c .R) (c .result) (subst (λ (n : ℕ). Nu
     same : c .R ≡ d .R
     same =
         go (c .R) (d .R) (lt-or-ge (c .R) (d .R)) (lt-or-ge (d .R) (c .R))
-        (λ g. no (4 * (c .X * 2 ^ 1074)) ((c .R + d .R) * (c .R + d .R)) ((d .R + c .R) * (d .R + c .R)) (sum (c .R) (d .R)) (c .above t (d .R) (d .result) g) (subst (λ (n : ℕ). (d .R + c .R) * (d .R + c .R) < 4 * (n * 2 ^ 1074)) (sym e) (d .below r (c .R) (c .result) g)))
-        (λ g. no (4 * (d .X * 2 ^ 1074)) ((d .R + c .R) * (d .R + c .R)) ((c .R + d .R) * (c .R + d .R)) (sum (d .R) (c .R)) (d .above r (c .R) (c .result) g) (subst (λ (n : ℕ). (c .R + d .R) * (c .R + d .R) < 4 * (n * 2 ^ 1074)) e (c .below t (d .R) (d .result) g)))
+        (λ g. no (4 * (c .X * 2 ^ 1074)) ((c .R + d .R) * (c .R + d .R)) ((d .R + c .R) * (d .R + c .R)) (sum (c .R) (d .R))
+        (c .above t (d .R) (d .result) g)
+        (subst (λ (n : ℕ). (d .R + c .R) * (d .R + c .R) < 4 * (n * 2 ^ 1074)) (sym e) (d .below r (c .R) (c .result) g)))
+        (λ g. no (4 * (d .X * 2 ^ 1074)) ((d .R + c .R) * (d .R + c .R)) ((c .R + d .R) * (c .R + d .R)) (sum (d .R) (c .R))
+        (d .above r (c .R) (c .result) g)
+        (subst (λ (n : ℕ). (c .R + d .R) * (c .R + d .R) < 4 * (n * 2 ^ 1074)) e (c .below t (d .R) (d .result) g)))
 
 -- ---- THE LAW: `rootOf` is the standard's operation at every value of the format, and nothing else is.
 pub root-law : (x : Float) → T (fits binary64 x) → SquareRoot x (rootOf x)

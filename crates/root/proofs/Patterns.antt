@@ -2,21 +2,22 @@
 use mathlib.Core.Path.{_≡_, refl, sym, ap, _∙_, subst}
 use mathlib.Core.Logic.{_⊎_, inl, inr}
 use Prim.Native.Nat.{ℕ, zero, suc, _+_, _-_, _*_, _/_, _%_, _^_, _≤_, _<_}
-use native.Mathlib.Nat.{le-trans, le-of-eq, le-of-lt, lt-of-lt-of-le, lt-of-le-of-lt, lt-of-not-le, lt-irrefl, not-le-of-lt, mul-comm, mul-assoc, mul-one, mul-le-mul-right, mul-lt-mul-of-pos-right, mul-pos, mod-lt, mod-eq-of-lt, zero-mul, eq-zero-or-pos, zero-lt-suc}
+use native.Mathlib.Nat.{le-trans, le-of-eq, lt-of-lt-of-le, lt-of-not-le, lt-irrefl, mul-assoc, mul-one, mul-le-mul-right, mul-lt-mul-of-pos-right, mul-pos}
+use native.Mathlib.Nat.{mod-lt, mod-eq-of-lt, zero-mul, eq-zero-or-pos, zero-lt-suc}
 use native.Mathlib.Omega.{arith}
 use mathlib.Core.Bool.{Bool, true, false, not, cond, _&&_, _||_, Bool·beq, true≢false, false≢true}
-use lib.IntN.{ℤ, pos, negsuc}
-use lib.Dec.{T, leb, ltb, eqb, lt→ltb, ltb→lt, lit<, lit≤, eqb→eq, not-T}
+use lib.Dec.{T, leb, eqb, lt→ltb, lit<, lit≤, eqb→eq, not-T}
 use lib.Arith.{lt→nleb}
 use lib.Bits.{bitAnd, and-mask}
 use lib.Count.{leadingZeros, leading-top}
-use lib.Pow.{pow-add, pow-pos, pow-mono, shl-lt}
+use lib.Pow.{pow-add, pow-pos, pow-mono}
 use lib.Ieee.{Float, nan, inf, fin, binary64, up, down, size, odd, neg, nanBits, fits, isNan, ofFields, ofBits, toBits, lt, eq}
-use lib.Ieee.Fits.{up-pos, down-pos, neg-fits, and-l}
+use lib.Ieee.Fits.{up-pos, neg-fits, and-l}
 use lib.Ieee.Positive.{first-pos}
 use lib.Ieee.Exact.{HasValue, odd-sign}
-use lib.Ieee.Bits.{ofBits-toBits, toBits-lt, is-true, is-false, cond-no}
-use Rattle.root.specs.Root.{rootUnits, rootOf}
+use lib.Ieee.Bits.{ofBits-toBits, toBits-lt, is-false, cond-no}
+use Rattle.float.specs.Order.{nought}
+use Rattle.root.specs.Root.{rootOf}
 use Rattle.root.specs.Steps.{nearestRoot, fieldUnits, bitUnits, Scaled, Paired}
 use Rattle.root.proofs.Values.{Range, root-at, read-back, no-nan-bits, nearest-range, root-of-value}
 
@@ -149,10 +150,7 @@ top-of-bits b h l = go (eqb (b % 2 ^ 52) 0) (parts b l ∙ ap (λ (y : ℕ). ofF
     go false e = inr e
 
 -- ---- a value above 0
-abbrev pub Zero : Float
-Zero = fin false 0 (pos 0)
-
-pub above-no-nan : (x : Float) → lt Zero x ≡ true → T (not (isNan x))
+pub above-no-nan : (x : Float) → lt nought x ≡ true → T (not (isNan x))
 unfolding lt isNan
 above-no-nan nan h = absurd (false≢true h)
 above-no-nan (inf s) h = tt
@@ -162,7 +160,7 @@ above-no-nan (fin s m e) h = tt
 room : (a b : ℕ) → 2 ^ 63 + a + b < 2 ^ 64 → 0 + a + b < 2 ^ 63
 room a b h = omega arith
 
-pub unsigned : (x : Float) → T (fits binary64 x) → lt Zero x ≡ true → toBits binary64 x < 2 ^ 63
+pub unsigned : (x : Float) → T (fits binary64 x) → lt nought x ≡ true → toBits binary64 x < 2 ^ 63
 unfolding lt toBits
 unsigned nan f h = absurd (false≢true h)
 unsigned (inf true) f h = absurd (false≢true h)
@@ -172,28 +170,28 @@ unsigned (fin false m e) f h =
     room ((size (m * up e * 2 ^ 1074 / down e) - 53) * 2 ^ 52) (m * up e * 2 ^ 1074 / down e / 2 ^ (size (m * up e * 2 ^ 1074 / down e) - 53))
     (toBits-lt binary64 (fin true m e) (unfold neg in neg-fits binary64 (fin false m e) f))
 
-pub above-zero-bits : (x : Float) → T (fits binary64 x) → lt Zero x ≡ true → 0 < toBits binary64 x
+pub above-zero-bits : (x : Float) → T (fits binary64 x) → lt nought x ≡ true → 0 < toBits binary64 x
 unfolding lt ofBits
 above-zero-bits x f h = elim (eq-zero-or-pos (toBits binary64 x)) [
-  | inl z ↦ absurd (false≢true (ap (λ (v : Float). lt Zero v) (ap (λ (b : ℕ). ofBits binary64 b) (sym z) ∙ ofBits-toBits binary64 x f) ∙ h))
+  | inl z ↦ absurd (false≢true (ap (λ (v : Float). lt nought v) (ap (λ (b : ℕ). ofBits binary64 b) (sym z) ∙ ofBits-toBits binary64 x f) ∙ h))
   | inr p ↦ p
 ]
 
-pub above-top-root : (x : Float) → T (fits binary64 x) → lt Zero x ≡ true → 0x7ff0_0000_0000_0000 ≤ toBits binary64 x → x ≡ rootOf x
+pub above-top-root : (x : Float) → T (fits binary64 x) → lt nought x ≡ true → 0x7ff0_0000_0000_0000 ≤ toBits binary64 x → x ≡ rootOf x
 unfolding rootOf lt
 above-top-root x f h l =
     let b = toBits binary64 x in
     let r : ofBits binary64 b ≡ x = ofBits-toBits binary64 x f in
     elim (top-of-bits b l (unsigned x f h)) [
       | inl e ↦ let v : x ≡ inf false = sym r ∙ e in v ∙ ap rootOf (sym v)
-      | inr e ↦ absurd (false≢true (ap (λ (v : Float). lt Zero v) (sym e ∙ r) ∙ h))
+      | inr e ↦ absurd (false≢true (ap (λ (v : Float). lt nought v) (sym e ∙ r) ∙ h))
     ]
 
 -- ---- the root of a value above 0
 pub split-even : (g : ℕ) → 1022 ≤ g → g % 2 ≡ 0 → 52 + (g / 2 - 26 + (g / 2 - 26)) ≡ g
 split-even g h e = omega arith
 
-pub root-bits : (x : Float) (m g : ℕ) → T (fits binary64 x) → lt Zero x ≡ true → toBits binary64 x < 0x7ff0_0000_0000_0000 → Paired (toBits binary64 x) m g
+pub root-bits : (x : Float) (m g : ℕ) → T (fits binary64 x) → lt nought x ≡ true → toBits binary64 x < 0x7ff0_0000_0000_0000 → Paired (toBits binary64 x) m g
     → T (not (nanBits binary64 ((g / 2 - 26) * 2 ^ 52 + nearestRoot (m * 2 ^ 52)))) × (ofBits binary64 ((g / 2 - 26) * 2 ^ 52 + nearestRoot (m * 2 ^ 52)) ≡ rootOf x)
 root-bits x m g f h l v =
     let b = toBits binary64 x in
@@ -212,7 +210,7 @@ root-bits x m g f h l v =
     within g h = omega arith
 
 -- ---- the other values
-pub zero-root : (x : Float) → eq x Zero ≡ true → x ≡ rootOf x
+pub zero-root : (x : Float) → eq x nought ≡ true → x ≡ rootOf x
 unfolding eq rootOf
 zero-root nan h = absurd (false≢true h)
 zero-root (inf s) h = absurd (false≢true h)
@@ -231,7 +229,7 @@ level-zero s a b p q = subst (λ (x : ℕ). T (eqb x b && (Bool·beq s false || 
     at true = tt
     at false = tt
 
-pub no-root : (x : Float) → lt Zero x ≡ false → eq x Zero ≡ false → nan ≡ rootOf x
+pub no-root : (x : Float) → lt nought x ≡ false → eq x nought ≡ false → nan ≡ rootOf x
 unfolding lt eq rootOf
 no-root nan h k = refl
 no-root (inf true) h k = refl
@@ -242,7 +240,7 @@ no-root (fin false (suc m) e) h k =
     absurd (subst T h (lt→ltb (0 * down e) (suc m * up e * 1) (subst (λ (y : ℕ). y < suc m * up e * 1) (sym (zero-mul (down e))) (mul-pos (mul-pos (zero-lt-suc m) (up-pos e)) (zero-lt-suc 0)))))
 
 -- ---- as the code writes it
-pub made : (x : Float) (m g q : ℕ) → T (fits binary64 x) → lt Zero x ≡ true → toBits binary64 x < 0x7ff0_0000_0000_0000 → Paired (toBits binary64 x) m g → q ≡ nearestRoot (m * 2 ^ 52)
+pub made : (x : Float) (m g q : ℕ) → T (fits binary64 x) → lt nought x ≡ true → toBits binary64 x < 0x7ff0_0000_0000_0000 → Paired (toBits binary64 x) m g → q ≡ nearestRoot (m * 2 ^ 52)
     → (q < 2 ^ 53) × T (not (nanBits binary64 ((g / 2 - 26) * 2 ^ 52 % 2 ^ 64 + q))) × (ofBits binary64 ((g / 2 - 26) * 2 ^ 52 % 2 ^ 64 + q) ≡ rootOf x)
 made x m g q f h l v e =
     let n = m * 2 ^ 52 in

@@ -1,11 +1,11 @@
 -- What the quick way of `root` rests on: the rounded root of n is the one r with r * r - r < n ≤ r * r + r, whatever r was guessed from. Assumes nothing.
-use mathlib.Core.Path.{_≡_, refl, sym, ap, _∙_, subst}
+use mathlib.Core.Path.{_≡_, sym, ap, _∙_, subst}
 use mathlib.Core.Logic.{_⊎_, inl, inr}
-use Prim.Native.Nat.{ℕ, zero, suc, _+_, _-_, _*_, _/_, _%_, _^_, _≤_, _<_}
+use Prim.Native.Nat.{ℕ, _+_, _-_, _*_, _/_, _%_, _^_, _≤_, _<_}
 use native.Mathlib.Nat.{mul-le-mul, mul-mul-mul-comm, mul-right-comm}
 use native.Mathlib.Omega.{arith}
-use mathlib.Core.Bool.{Bool, true, false, not}
-use lib.Dec.{T, ltb}
+use mathlib.Core.Bool.{Bool, not}
+use lib.Dec.{T}
 use lib.Ieee.{binary64, nanBits}
 use lib.Ieee.Bits.{nanBits-above}
 use borrow.Author.Tests.{le-ltb}
@@ -66,16 +66,25 @@ high-le p hi lo h e =
     let m : p * p ≤ 2 ^ 53 * 2 ^ 53 = mul-le-mul k k in
     omega arith
 
-pub square-is : (p : ℕ) → (p / 0x1_0000_0000 * (p / 0x1_0000_0000) + (2 * (p / 0x1_0000_0000 * (p % 0x1_0000_0000)) + p % 0x1_0000_0000 * (p % 0x1_0000_0000) / 0x1_0000_0000) / 0x1_0000_0000) * 2 ^ 64
-    + ((2 * (p / 0x1_0000_0000 * (p % 0x1_0000_0000)) + p % 0x1_0000_0000 * (p % 0x1_0000_0000) / 0x1_0000_0000) % 0x1_0000_0000 * 0x1_0000_0000 + p % 0x1_0000_0000 * (p % 0x1_0000_0000) % 0x1_0000_0000) ≡ p * p
+pub square-is : (p : ℕ)
+    → (p / 0x1_0000_0000 * (p / 0x1_0000_0000)
+    + (2 * (p / 0x1_0000_0000 * (p % 0x1_0000_0000)) + p % 0x1_0000_0000 * (p % 0x1_0000_0000) / 0x1_0000_0000) / 0x1_0000_0000) * 2 ^ 64
+    + ((2 * (p / 0x1_0000_0000 * (p % 0x1_0000_0000)) + p % 0x1_0000_0000 * (p % 0x1_0000_0000) / 0x1_0000_0000) % 0x1_0000_0000 * 0x1_0000_0000
+    + p % 0x1_0000_0000 * (p % 0x1_0000_0000) % 0x1_0000_0000) ≡ p * p
 square-is p =
     let a = p / 0x1_0000_0000 in
     let b = p % 0x1_0000_0000 in
     let e : a * 2 ^ 32 + b ≡ p = omega arith in
     let f : (a * 2 ^ 32 + b) * (a * 2 ^ 32 + b) ≡ p * p = ap (λ (x : ℕ). x * x) e in
-    sum (a * a) (a * b) (b * b) ∙ sym (sq-add (a * 2 ^ 32) b ∙ ap (λ (x : ℕ). x + 2 * (a * 2 ^ 32 * b) + b * b) (mul-mul-mul-comm a (2 ^ 32) a (2 ^ 32)) ∙ ap (λ (x : ℕ). a * a * (2 ^ 32 * 2 ^ 32) + 2 * x + b * b) (mul-right-comm a (2 ^ 32) b)) ∙ f
+    sum (a * a) (a * b) (b * b)
+    ∙ sym
+    (sq-add (a * 2 ^ 32) b
+    ∙ ap (λ (x : ℕ). x + 2 * (a * 2 ^ 32 * b) + b * b) (mul-mul-mul-comm a (2 ^ 32) a (2 ^ 32))
+    ∙ ap (λ (x : ℕ). a * a * (2 ^ 32 * 2 ^ 32) + 2 * x + b * b) (mul-right-comm a (2 ^ 32) b))
+    ∙ f
   where
-    sum : (x y z : ℕ) → (x + (2 * y + z / 0x1_0000_0000) / 0x1_0000_0000) * 2 ^ 64 + ((2 * y + z / 0x1_0000_0000) % 0x1_0000_0000 * 0x1_0000_0000 + z % 0x1_0000_0000) ≡ x * (2 ^ 32 * 2 ^ 32) + 2 * (y * 2 ^ 32) + z
+    sum : (x y z : ℕ)
+        → (x + (2 * y + z / 0x1_0000_0000) / 0x1_0000_0000) * 2 ^ 64 + ((2 * y + z / 0x1_0000_0000) % 0x1_0000_0000 * 0x1_0000_0000 + z % 0x1_0000_0000) ≡ x * (2 ^ 32 * 2 ^ 32) + 2 * (y * 2 ^ 32) + z
     sum x y z = omega arith
 
 pub bit-none : (b : ℕ) → b ≡ 0 → b ≤ 1
@@ -85,10 +94,12 @@ pub one-more : (hi b : ℕ) → hi ≤ 2 ^ 42 → b ≤ 1 → hi + b < 2 ^ 64
 one-more hi b h k = omega arith
 
 -- what two halves leave of two halves
-pub left-none : (pp hi lo d c : ℕ) → hi * 2 ^ 64 + lo ≡ pp → d < 2 ^ 64 → lo < 2 ^ 64 → (d + lo) % 2 ^ 64 ≡ c % 0x1000 * 0x10_0000_0000_0000 → lo ≤ c % 0x1000 * 0x10_0000_0000_0000 → hi + 0 ≡ c / 0x1000 → pp + d ≡ c * 2 ^ 52
+pub left-none : (pp hi lo d c : ℕ) → hi * 2 ^ 64 + lo ≡ pp → d < 2 ^ 64 → lo < 2 ^ 64
+    → (d + lo) % 2 ^ 64 ≡ c % 0x1000 * 0x10_0000_0000_0000 → lo ≤ c % 0x1000 * 0x10_0000_0000_0000 → hi + 0 ≡ c / 0x1000 → pp + d ≡ c * 2 ^ 52
 left-none pp hi lo d c e b l w t h = omega arith
 
-pub left-one : (pp hi lo d c : ℕ) → hi * 2 ^ 64 + lo ≡ pp → d < 2 ^ 64 → lo < 2 ^ 64 → (d + lo) % 2 ^ 64 ≡ c % 0x1000 * 0x10_0000_0000_0000 → c % 0x1000 * 0x10_0000_0000_0000 < lo → hi + 1 ≡ c / 0x1000 → pp + d ≡ c * 2 ^ 52
+pub left-one : (pp hi lo d c : ℕ) → hi * 2 ^ 64 + lo ≡ pp → d < 2 ^ 64 → lo < 2 ^ 64
+    → (d + lo) % 2 ^ 64 ≡ c % 0x1000 * 0x10_0000_0000_0000 → c % 0x1000 * 0x10_0000_0000_0000 < lo → hi + 1 ≡ c / 0x1000 → pp + d ≡ c * 2 ^ 52
 left-one pp hi lo d c e b l w t h = omega arith
 
 -- ---- a pattern up to infinity's is no NaN's

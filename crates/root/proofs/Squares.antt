@@ -1,13 +1,14 @@
 -- Whole roots: `wholeRoot n` is the one r with r * r ≤ n < (r + 1) * (r + 1). Assumes nothing.
 use mathlib.Core.Path.{_≡_, refl, sym, ap, _∙_, subst}
 use mathlib.Core.Logic.{_⊎_, inl, inr}
-use Prim.Native.Nat.{ℕ, zero, suc, _+_, _-_, _*_, _/_, _%_, _^_, _≤_, _<_, compare, Ordering, Ordering·lt, Ordering·eq, Ordering·gt}
-use native.Mathlib.Nat.{le-trans, le-of-eq, le-antisymm, le-of-suc-le-suc, le-of-lt, lt-of-lt-of-le, lt-of-le-of-lt, lt-of-not-le, lt-irrefl, not-le-of-lt, add-mul, mul-add, mul-comm, mul-assoc, mul-one, one-mul, mul-left-comm, mul-mul-mul-comm, mul-le-mul, mul-le-mul-left, pow-suc, pow-succ', div-lt-iff-lt-mul, zero-lt-suc}
+use Prim.Native.Nat.{ℕ, zero, suc, _+_, _-_, _*_, _/_, _^_, _≤_, _<_, compare, Ordering, Ordering·lt, Ordering·eq, Ordering·gt}
+use native.Mathlib.Nat.{le-trans, le-of-eq, le-antisymm, le-of-suc-le-suc, le-of-lt, lt-of-lt-of-le, lt-of-not-le, lt-irrefl, add-mul, mul-add, mul-comm}
+use native.Mathlib.Nat.{mul-assoc, mul-one, mul-left-comm, mul-mul-mul-comm, mul-le-mul, pow-suc, pow-succ', div-lt-iff-lt-mul, zero-lt-suc}
 use native.Mathlib.Omega.{arith}
 use mathlib.Core.Bool.{Bool, true, false, not, cond}
 use native.Mathlib.Numerals.{add-one}
 use lib.Dec.{T, leb, isLe, isEq, leb→le, nleb→lt, eqb→eq}
-use lib.Pow.{pow-pos, pow-mono, pow-add}
+use lib.Pow.{pow-mono, pow-add}
 use lib.Ieee.{size, nearest}
 use lib.Ieee.Digits.{size-lt}
 use Rattle.root.specs.Root.{digit, whole, wholeRoot}

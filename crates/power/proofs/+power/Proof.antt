@@ -1,6 +1,5 @@
 -- `power::power` meets its contract: the count of half-steps falls at each call, and each way out is a law of proofs/Cases.antt. Assumes nothing.
 use Prim.Native.Nat.{_-_}
-use mathlib.Core.Path.{_≡_, sym, subst}
 use native.Mathlib.Omega.{arith}
 use borrow.Author.Needs.{needs}
 use Rattle.power.proofs.Cases.{power-two, power-three, power-more, power-nan, power-none}
@@ -61,7 +60,10 @@ power-returns-2 : (t : ℕ) → power-lts.Need-returns-2 (
   power-below t,
   power.Post,
 ) (power-at t) power.Post
-power-returns-2 t c = let s = c .before .before .before .before in power-three (s .args .x) (c .root .result) (s .args .h) (c .before .before .before .if1 .taken) (c .before .if3 .taken) (c .root .ensures)
+power-returns-2 t c =
+    let s = c .before .before .before in
+    let a = s .before .args in
+    power-three (a .x) (c .root .result) (a .h) (s .if1 .taken) (c .before .if3 .taken) (c .root .ensures)
 
 power-returns-3 : (t : ℕ) → power-lts.Need-returns-3 (
   root-reads.Asked,
@@ -69,7 +71,10 @@ power-returns-3 : (t : ℕ) → power-lts.Need-returns-3 (
   power-below t,
   power.Post,
 ) (power-at t) power.Post
-power-returns-3 t c = let s = c .before .before .before .before in power-more (s .args .x) (c .power .result) (s .args .h) (c .before .before .before .if1 .taken) (c .before .before .if2 .left) (c .before .if3 .left) (c .power .ensures)
+power-returns-3 t c =
+    let s = c .before .before .before in
+    let a = s .before .args in
+    power-more (a .x) (c .power .result) (a .h) (s .if1 .taken) (c .before .before .if2 .left) (c .before .if3 .left) (c .power .ensures)
 
 power-returns-4 : (t : ℕ) → power-lts.Need-returns-4 (
   root-reads.Asked,

@@ -4,8 +4,6 @@ use Rattle.root.proofs.Quick.{low-no-nan}
 use borrow.Author.Needs.{needs}
 use Rattle.root.proofs.approximate.Statement.{statement}
 use Rattle.root.proofs.approximate.Tie as tie
-use Rattle.root.proofs.approximate.Reads as reads
-use Rattle.root.proofs.approximate.Lts as lts
 
 float-from-bits-x : tie.Need-float-from-bits-x
 float-from-bits-x c = low-no-nan (c .args .bits) (omega arith)

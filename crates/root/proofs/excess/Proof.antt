@@ -8,10 +8,6 @@ use Rattle.root.proofs.Quick.{high-le, bit-none, one-more, left-none, l
 use borrow.Author.Needs.{needs}
 use Rattle.root.proofs.excess.Statement.{statement}
 use Rattle.root.proofs.excess.Tie as tie
-use Rattle.root.proofs.excess.Reads as reads
-use Rattle.root.proofs.excess.Lts as lts
-use Rattle.root.proofs.square.Reads as square-reads
-use Rattle.std.proofs.num.wrapping_sub_u64.Reads as wrapping-sub-u64-reads
 
 square-requires : tie.Need-square-requires
 square-requires c κs = search needs
@@ -33,12 +29,19 @@ returns c = λ h.
     let q = c .before .before .before .before .before .before in
     let s = q .before .before in
     let w = c .before .before .before .before .before .wrapping-sub-u64 in
+    let p = s .args .p in
+    let sq = q .square in
+    let hi = sq .result .hi in
+    let lo = sq .result .lo in
+    let lo-fits = c .before .before .before .before .struct-known .given .1 .0 .fits in
     record {
       small = q .before .if1 .taken;
       most = s .pre;
       is = ⊎-elim
-          (λ v. left-one (s .args .p * s .args .p) (q .square .result .hi) (q .square .result .lo) (w .result) (s .args .c) (q .square .ensures) (omega arith) (c .before .before .before .before .struct-known .given .1 .0 .fits) (w .ensures) (v .0 .taken) (ap (λ (x : ℕ). q .square .result .hi + x) (sym (v .1)) ∙ c .if3 .taken))
-          (λ v. left-none (s .args .p * s .args .p) (q .square .result .hi) (q .square .result .lo) (w .result) (s .args .c) (q .square .ensures) (omega arith) (c .before .before .before .before .struct-known .given .1 .0 .fits) (w .ensures) (v .0 .left) (ap (λ (x : ℕ). q .square .result .hi + x) (sym (v .1)) ∙ c .if3 .taken))
+          (λ v. left-one (p * p) hi lo (w .result) (s .args .c) (sq .ensures) (omega arith) lo-fits (w .ensures) (v .0 .taken)
+          (ap (λ (x : ℕ). hi + x) (sym (v .1)) ∙ c .if3 .taken))
+          (λ v. left-none (p * p) hi lo (w .result) (s .args .c) (sq .ensures) (omega arith) lo-fits (w .ensures) (v .0 .left)
+          (ap (λ (x : ℕ). hi + x) (sym (v .1)) ∙ c .if3 .taken))
           (c .before .before .before .if2 .came);
     }
 

@@ -12,10 +12,6 @@ use Rattle.root.proofs.Quick.{after-1, pattern-is}
 use borrow.Author.Needs.{needs}
 use Rattle.root.proofs.is_rounded.Statement.{statement}
 use Rattle.root.proofs.is_rounded.Tie as tie
-use Rattle.root.proofs.is_rounded.Reads as reads
-use Rattle.root.proofs.is_rounded.Lts as lts
-use Rattle.root.proofs.excess.Reads as excess-reads
-use Rattle.std.proofs.num.wrapping_sub_u64.Reads as wrapping-sub-u64-reads
 
 float-to-bits-wrapping-sub-u64 : tie.Need-float-to-bits-wrapping-sub-u64
 unfolding ofBits
@@ -47,7 +43,8 @@ returns c = λ t.
     let w = c .before .before .before .wrapping-sub-u64 in
     let s = c .before .before .before .before .before in
     let e = after-1 _ _ _ (k .is) (c .before .if2 .taken) (omega (arith, c .if3 .taken)) in
-    sym (ofBits-toBits binary64 (s .args .g) (subst T (sym (s .good .0 .1)) tt)) ∙ ap (λ (b : ℕ). ofBits binary64 b) (pattern-is (toBits binary64 (s .args .g)) (s .args .low) (w .result) _ (w .ensures) (k .small) (s .pre .1) e)
+    sym (ofBits-toBits binary64 (s .args .g) (subst T (sym (s .good .0 .1)) tt))
+    ∙ ap (λ (b : ℕ). ofBits binary64 b) (pattern-is (toBits binary64 (s .args .g)) (s .args .low) (w .result) _ (w .ensures) (k .small) (s .pre .1) e)
 
 returns-2 : tie.Need-returns-2
 returns-2 c = λ t. absurd (false≢true t)

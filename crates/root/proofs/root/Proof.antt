@@ -1,23 +1,16 @@
 -- `root::root` meets its contract: the facts are those of `proofs/Patterns.antt`. Of the guess nothing is used. Assumes nothing.
-use mathlib.Core.Path.{_≡_, refl, sym, ap, _∙_, subst}
-use Prim.Native.Nat.{ℕ, _+_, _-_, _*_, _/_, _%_, _^_, _≤_, _<_}
+use mathlib.Core.Path.{_≡_, refl, sym, _∙_, subst}
+use Prim.Native.Nat.{ℕ, _+_, _-_, _*_, _/_, _%_, _^_, _<_}
 use native.Mathlib.Omega.{arith}
-use mathlib.Core.Bool.{true, not}
+use mathlib.Core.Bool.{not}
 use lib.Dec.{T}
-use lib.Ieee.{Float, binary64, fits, isNan, nanBits, ofBits, toBits, lt, eq, div}
+use lib.Ieee.{binary64, fits, nanBits, ofBits, div}
 use Rattle.root.specs.Root.{rootOf}
 use Rattle.root.specs.Steps.{nearestRoot}
-use Rattle.root.proofs.Patterns.{Zero, above-no-nan, above-zero-bits, above-top-root, zero-root, no-root, made}
+use Rattle.root.proofs.Patterns.{above-no-nan, above-zero-bits, above-top-root, zero-root, no-root, made}
 use borrow.Author.Needs.{needs}
 use Rattle.root.proofs.root.Statement.{statement}
 use Rattle.root.proofs.root.Tie as tie
-use Rattle.root.proofs.root.Reads as reads
-use Rattle.root.proofs.root.Lts as lts
-use Rattle.root.proofs.approximate.Reads as approximate-reads
-use Rattle.root.proofs.guess.Reads as guess-reads
-use Rattle.root.proofs.is_rounded.Reads as is-rounded-reads
-use Rattle.root.proofs.paired.Reads as paired-reads
-use Rattle.root.proofs.rounded.Reads as rounded-reads
 
 held : (c : tie.Start) → T (fits binary64 (c .args .x))
 held c = subst T (sym (c .good .0 .1)) tt
@@ -32,7 +25,8 @@ paired-requires c κs = (above-zero-bits (c .before .before .args .x) (held (c .
 
 -- the pattern that has the rounded root's digits q
 pattern : (c : tie.After-paired) (q : ℕ) → q ≡ nearestRoot (c .paired .result .m * 2 ^ 52)
-    → (q < 2 ^ 53) × T (not (nanBits binary64 ((c .paired .result .g / 2 - 26) * 2 ^ 52 % 2 ^ 64 + q))) × (ofBits binary64 ((c .paired .result .g / 2 - 26) * 2 ^ 52 % 2 ^ 64 + q) ≡ rootOf (c .before .before .before .args .x))
+    → (q < 2 ^ 53) × T (not (nanBits binary64 ((c .paired .result .g / 2 - 26) * 2 ^ 52 % 2 ^ 64 + q)))
+    × (ofBits binary64 ((c .paired .result .g / 2 - 26) * 2 ^ 52 % 2 ^ 64 + q) ≡ rootOf (c .before .before .before .args .x))
 unfolding ofBits
 pattern c q e =
     let s = c .before .before .before in
@@ -57,7 +51,10 @@ guess-requires c κs = search needs
 rounded-requires : tie.Need-rounded-requires
 rounded-requires c κs = search needs
 
-result : (c : tie.After-rounded) → (c .rounded .result < 2 ^ 53) × T (not (nanBits binary64 ((c .before .before .before .before .paired .result .g / 2 - 26) * 2 ^ 52 % 2 ^ 64 + c .rounded .result))) × (ofBits binary64 ((c .before .before .before .before .paired .result .g / 2 - 26) * 2 ^ 52 % 2 ^ 64 + c .rounded .result) ≡ rootOf (c .before .before .before .before .before .before .before .args .x))
+result : (c : tie.After-rounded) → (c .rounded .result < 2 ^ 53)
+    × T (not (nanBits binary64 ((c .before .before .before .before .paired .result .g / 2 - 26) * 2 ^ 52 % 2 ^ 64 + c .rounded .result)))
+    × (ofBits binary64 ((c .before .before .before .before .paired .result .g / 2 - 26) * 2 ^ 52 % 2 ^ 64 + c .rounded .result)
+    ≡ rootOf (c .before .before .before .before .before .before .before .args .x))
 result c = pattern (c .before .before .before .before) (c .rounded .result) (c .rounded .ensures)
 
 add-result : tie.Need-add-result
