@@ -1,1 +1,5 @@
 pub mod Halvings
+pub mod Middle
+pub mod Guess
+pub mod Threshold
+pub mod Found

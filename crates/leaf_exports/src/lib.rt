@@ -188,6 +188,27 @@ pub extern "C" fn leaf_force_sweep(
     }
 }
 
+// How many trials the search for a force took, as `hammer::Search` counts them. It is for the bench:
+// nothing is promised of it.
+#[no_mangle]
+pub extern "C" fn leaf_force_trials(
+    stiffness: f64,
+    exponent: u32,
+    eps_r: f64,
+    c0: f64,
+    c1: f64,
+) -> u32 {
+    let hammer = Hammer {
+        stiffness,
+        exponent,
+        eps: 0.0,
+        mass: 1.0,
+        tau: 0.0,
+    };
+    let search = hammer::search_force(hammer, eps_r, c0, c1);
+    search.trials
+}
+
 // The row runs over a block: each input gives way to the row's output.
 #[no_mangle]
 pub extern "C" fn leaf_row_run(cells: &mut [f64], a: f64, block: &mut [f64])

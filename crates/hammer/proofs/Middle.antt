@@ -1,0 +1,115 @@
+-- The middle of two values lies between them: their sum, rounded, lies between the doubles of the two, and its half between the two.
+-- Assumes nothing.
+use mathlib.Core.Path.{_≡_, refl, sym, ap, _∙_, subst}
+use Prim.Native.Nat.{ℕ, suc, _+_, _*_, _^_, _≤_, _<_}
+use native.Mathlib.Nat.{le-trans, le-of-eq, one-mul, add-mul, mul-comm, mul-assoc, mul-left-comm, mul-right-comm, mul-le-mul-right, mul-pos, pow-succ'}
+use native.Mathlib.Omega.{arith}
+use mathlib.Core.Bool.{true, false, true≢false}
+use lib.Dec.{T}
+use lib.Pow.{pow-pos}
+use lib.Ieee.{Float, nan, inf, fin, binary64, up, down, round, sum, add, mul, fits, ofBits}
+use lib.Ieee.Fits.{down-pos, round-fits}
+use lib.Ieee.Scale.{round-same}
+use Rattle.float.specs.Float.{half}
+use Rattle.float.specs.Units.{Has, Rep, rep, between}
+use Rattle.hammer.specs.Contact.{middle}
+
+twice-rep : (a : ℕ) → Rep a → Rep (2 * a)
+twice-rep a r = (
+  r .0,
+  suc (r .1),
+  r .2,
+  ap (λ (y : ℕ). 2 * y) (r .3) ∙ mul-left-comm 2 (r .0) (2 ^ r .1) ∙ ap (λ (y : ℕ). r .0 * y) (sym (pow-succ' 2 (r .1))),
+)
+
+-- ---- the sum and the half, in units
+
+plain : (a b c : ℕ) → sum binary64 false a false b c ≡ round binary64 false (a + b) c
+unfolding sum
+plain a b c = refl
+
+sum-is : (x y : Float) (a b : ℕ) → Has x a → Has y b → add binary64 x y ≡ round binary64 false (a + b) (2 ^ 1074)
+unfolding add
+sum-is nan y a b h k = absurd h
+sum-is (inf s) y a b h k = absurd h
+sum-is (fin true m e) y a b h k = absurd (true≢false (h .0))
+sum-is (fin false m e) nan a b h k = absurd k
+sum-is (fin false m e) (inf s) a b h k = absurd k
+sum-is (fin false m e) (fin true n d) a b h k = absurd (true≢false (k .0))
+sum-is (fin false m e) (fin false n d) a b h k =
+    let P = 2 ^ 1074 in
+    let A = m * up e * down d in
+    let B = n * up d * down e in
+    let C = down e * down d in
+    let u : A * P ≡ a * C =
+    mul-right-comm (m * up e) (down d) P ∙ ap (λ (y : ℕ). y * down d) (h .1) ∙ mul-assoc a (down e) (down d) in
+    let v : B * P ≡ b * C =
+    mul-right-comm (n * up d) (down e) P ∙ ap (λ (y : ℕ). y * down e) (k .1) ∙ mul-assoc b (down d) (down e)
+    ∙ ap (λ (y : ℕ). b * y) (mul-comm (down d) (down e)) in
+    plain A B C
+    ∙ round-same binary64 false (A + B) C (a + b) P (mul-pos (down-pos e) (down-pos d)) (pow-pos 1074)
+    (add-mul A B P ∙ ap (λ (y : ℕ). y + B * P) u ∙ ap (λ (y : ℕ). a * C + y) v ∙ sym (add-mul a b C))
+
+twice-pos : (p : ℕ) → 0 < p → 0 < 2 * p
+twice-pos p h = omega arith
+
+half-is : (x : Float) (s : ℕ) → Has x s → mul binary64 half x ≡ round binary64 false s (2 * 2 ^ 1074)
+unfolding mul ofBits
+half-is nan s h = absurd h
+half-is (inf t) s h = absurd h
+half-is (fin true m e) s h = absurd (true≢false (h .0))
+half-is (fin false m e) s h =
+    let P = 2 ^ 1074 in
+    let a = m * up e in
+    round-same binary64 false (1 * a) (2 * down e) s (2 * P) (twice-pos (down e) (down-pos e)) (twice-pos P (pow-pos 1074))
+    (ap (λ (y : ℕ). y * (2 * P)) (one-mul a) ∙ mul-left-comm a 2 P ∙ ap (λ (y : ℕ). 2 * y) (h .1) ∙ mul-left-comm 2 s (down e))
+
+-- ---- the middle
+
+-- x is a value of the format from a to b, in units
+pub record Within (x : Float) (a b : ℕ) : Type 0 where
+  pub at : ℕ
+  pub has : Has x at
+  pub fit : T (fits binary64 x)
+  pub least : a ≤ at
+  pub most : at ≤ b
+
+pub middle-within : (x y : Float) (a b : ℕ) → T (fits binary64 x) → T (fits binary64 y) → Has x a → Has y b
+    → a ≤ b → 2 * b < 2 ^ 2098 → Within (middle x y) a b
+unfolding middle
+middle-within x y a b f g h k l top =
+    let P = 2 ^ 1074 in
+    let r = rep x a f h in
+    let q = rep y b g k in
+    let s =
+    between (2 * a) (2 * b) (a + b) P (pow-pos 1074) (twice-rep a r) (twice-rep b q) top
+    (mul-le-mul-right P (below a b l)) (mul-le-mul-right P (above a b l)) in
+    let n = s .0 in
+    let t =
+    between a b n (2 * P) (twice-pos P (pow-pos 1074)) r q (less b top)
+    (le-trans (le-of-eq (turned a P)) (mul-le-mul-right P (s .2)))
+    (le-trans (mul-le-mul-right P (s .3)) (le-of-eq (sym (turned b P)))) in
+    let e : mul binary64 half (add binary64 x y) ≡ round binary64 false n (2 * P) =
+    ap (λ (v : Float). mul binary64 half v) (sum-is x y a b h k) ∙ half-is (round binary64 false (a + b) P) n (s .1) in
+    record {
+      at = t .0;
+      has = subst (λ (v : Float). Has v (t .0)) (sym e) (t .1);
+      fit = subst (λ (v : Float). T (fits binary64 v)) (sym e) (round-fits binary64 false n (2 * P));
+      least = t .2;
+      most = t .3;
+    }
+  where
+    below : (a b : ℕ) → a ≤ b → 2 * a ≤ a + b
+    below a b h = omega arith
+
+    above : (a b : ℕ) → a ≤ b → a + b ≤ 2 * b
+    above a b h = omega arith
+
+    turned : (a P : ℕ) → a * (2 * P) ≡ 2 * a * P
+    turned a P = mul-left-comm a 2 P ∙ sym (mul-assoc 2 a P)
+
+    less : (b : ℕ) → 2 * b < 2 ^ 2098 → b < 2 ^ 2098
+    less b h = le-trans (more b) h
+      where
+        more : (b : ℕ) → suc b ≤ suc (2 * b)
+        more b = omega arith
