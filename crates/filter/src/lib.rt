@@ -1,6 +1,9 @@
 // The filters of a string's loop (document 01: Thiran, the dispersion stages, the loss), in place on lent cells. Each is total: see `specs/Filter.antt`
 // for what fewer cells than a filter holds mean.
 ghost use mathlib.Core.Path.{_≡_};
+ghost use Prim.Native.Nat.{_+_, _≤_};
+ghost use lib.ListN.{length};
+ghost use Rattle.filter.specs.Steps.{finishOut, finishCells};
 ghost use Rattle.filter.specs.Filter.{stageOut, stageCells, rowOut, rowCells, loopOut, loopCells};
 
 // A string's four coefficients.
@@ -50,4 +53,17 @@ pub fn loop_filter(cells: &mut [f64], filter: LoopFilter, x: f64) -> f64
     let y = filter.loss_g * (1.0 - filter.loss_c) * v + filter.loss_c * cells[last];
     cells[last] = y;
     y
+}
+
+// What is left of the loop filter once Thiran's stage and the first k cells of the row are done: the rest of the row, then the loss.
+pub fn finish(cells: &mut [f64], filter: LoopFilter, k: usize, x: f64) -> f64
+    requires { ⌜ k + 3 ≤ length (now cells) ⌝ }
+    ensures { λ r. ⌜ (r ≡ finishOut filter k (now (cells .entry)) x) × (now (cells .exit) ≡ finishCells filter k (now (cells .entry)) x) ⌝ }
+{
+    let last = cells.len() - 1;
+    let rest = 2 + k;
+    let w = dispersion(&mut cells[rest..last], filter.ap_a, x);
+    let z = filter.loss_g * (1.0 - filter.loss_c) * w + filter.loss_c * cells[last];
+    cells[last] = z;
+    z
 }

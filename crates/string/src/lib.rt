@@ -1,10 +1,11 @@
 // One string on its own part of the work memory: its six delay lines, its loop filter and its bridge end; and the table of all strings' designs.
 use filter::LoopFilter;
 ghost use mathlib.Core.Path.{_≡_};
-ghost use Prim.Native.Nat.{_+_, _%_, _≤_, _<_, _^_};
+ghost use Prim.Native.Nat.{_+_, _*_, _%_, _≤_, _<_, _^_};
 ghost use lib.ListN.{length};
 ghost use Rattle.cells.specs.Line.{lineRead, lineWrite};
 ghost use Rattle.string.specs.String.{sizeOf, Sound, Strung, IndicesAt, readAt, writeAt, readsOf, vIn, filtered, pointWrites, nutWrite, bridgeWrite};
+ghost use Rattle.string.specs.Steps.{atRow, uIn, started, finishedOut, finished};
 ghost use Rattle.string.specs.Table.{designAt, indicesIn, putIndices};
 
 // The three cuts, the number of dispersion stages, the index of the string's key, and the filter's coefficients.
@@ -220,6 +221,39 @@ pub fn filter_string(part: &mut [f64], d: StringDesign, x: Indices, t: u64) -> f
     let y = f + (2 * d.ap_count + 3);
     let filter = d.filter;
     filter::loop_filter(&mut part[f..y], filter, v)
+}
+
+// Where the cells of a string's row start.
+pub fn row_start(d: StringDesign) -> usize
+    requires { ⌜ sizeOf d < 2 ^ 64 ⌝ }
+    ensures { λ r. ⌜ r ≡ atRow d ⌝ }
+{
+    d.na + d.na + d.nb + d.nb + d.nc + d.nc + 2
+}
+
+// The loop filter in two of its three steps: Thiran's stage on what reaches the bridge; and, once the first k cells of the row are done, what is left.
+pub fn start_filter(part: &mut [f64], d: StringDesign, x: Indices, t: u64) -> f64
+    requires { ⌜ Strung d (now part) ⌝ }
+    requires { ⌜ IndicesAt d t x ⌝ }
+    ensures { λ r. ⌜ (r ≡ uIn d t (now (part .entry))) × (now (part .exit) ≡ started d t (now (part .entry))) ⌝ }
+{
+    let c_r = d.na + d.na + d.nb + d.nb;
+    let v = read_line(part, c_r, d.nc, x.c, t);
+    let f = c_r + d.nc + d.nc;
+    let e = f + 2;
+    let filter = d.filter;
+    filter::allpass(&mut part[f..e], filter.thiran_a, v)
+}
+
+pub fn finish_filter(part: &mut [f64], d: StringDesign, k: usize, v: f64) -> f64
+    requires { ⌜ Strung d (now part) ⌝ }
+    requires { ⌜ k ≤ 2 * d .«ap_count» ⌝ }
+    ensures { λ r. ⌜ (r ≡ finishedOut d k v (now (part .entry))) × (now (part .exit) ≡ finished d k v (now (part .entry))) ⌝ }
+{
+    let f = d.na + d.na + d.nb + d.nb + d.nc + d.nc;
+    let y = f + (2 * d.ap_count + 3);
+    let filter = d.filter;
+    filter::finish(&mut part[f..y], filter, k, v)
 }
 
 // What the bridge sends back.
