@@ -159,7 +159,7 @@ pub fn sample(
     let c = setup.constants;
     let h = motion.hammer;
     keys::move_dampers(table, down, damper_r, setup.keys);
-    strings::filter_strings(
+    rows::filter_strings(
         part,
         scratch,
         lengths,

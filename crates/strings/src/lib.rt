@@ -3,11 +3,10 @@ use points::Constants;
 use points::ForceSum;
 use points::HammerState;
 ghost use mathlib.Core.Path.{_≡_};
-ghost use mathlib.Core.List.{_++_};
 ghost use Prim.Native.Nat.{_+_, _≤_};
-ghost use lib.ListN.{length, drop};
+ghost use lib.ListN.{length};
 ghost use Rattle.string.specs.Table.{strings};
-ghost use Rattle.strings.specs.Strings.{AllFit, Indexed, cellsOf, filteredAll, vIns, turnedAll, forceAll, noForce, bridgeAll, bridgeForce};
+ghost use Rattle.strings.specs.Strings.{AllFit, Indexed, cellsOf, turnedAll, forceAll, noForce, bridgeAll, bridgeForce};
 ghost use Rattle.float.specs.Float.{zero};
 
 // The indices of n strings' lines at sample t, three a string, each by a division: once for a stretch of samples.
@@ -46,33 +45,6 @@ pub fn next_indices(
         let x = string::indices_at(indices, i);
         let next = string::next_indices(d, x, t);
         string::put_indices(indices, i, next);
-    }
-}
-
-// All loop filters; each string's v_in goes to its cell of v_in.
-pub fn filter_strings(
-    part: &mut [f64],
-    v_in: &mut [f64],
-    lengths: &[usize; 160],
-    coefficients: &[f64; 128],
-    indices: &[usize; 96],
-    n: usize,
-    t: u64,
-)
-    requires { ⌜ AllFit (now lengths) (now coefficients) n ⌝ }
-    requires { ⌜ Indexed (now lengths) (now coefficients) (now indices) n t ⌝ }
-    requires { ⌜ cellsOf (strings (now lengths) (now coefficients) n) ≤ length (now part) ⌝ }
-    requires { ⌜ n ≤ length (now «v_in») ⌝ }
-    ensures { λ _. ⌜ (now (part .exit) ≡ filteredAll (strings (now (lengths .entry)) (now (coefficients .entry)) n) t (now (part .entry)))
-        × (now («v_in» .exit) ≡ vIns (strings (now (lengths .entry)) (now (coefficients .entry)) n) t (now (part .entry)) ++ drop n (now («v_in» .entry))) ⌝ }
-{
-    let mut at = 0usize;
-    for i in 0..n {
-        let d = string::design_at(lengths, coefficients, i);
-        let e = at + string::size(d);
-        let x = string::indices_at(indices, i);
-        v_in[i] = string::filter_string(&mut part[at..e], d, x, t);
-        at = e;
     }
 }
 
