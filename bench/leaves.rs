@@ -23,6 +23,7 @@ extern "C" {
     fn leaf_root_chain(x: *const f64, count: usize) -> f64;
     fn leaf_root_sweep(x: *mut f64, count: usize);
     fn leaf_force_sweep(stiffness: f64, exponent: u32, eps_r: f64, c1: f64, c0: *mut f64, count: usize);
+    fn leaf_force_trials(stiffness: f64, exponent: u32, eps_r: f64, c0: f64, c1: f64) -> u32;
     fn leaf_row_run(cells: *mut f64, cell_count: usize, a: f64, block: *mut f64, block_count: usize);
     fn leaf_loop_filter(
         cells: *mut f64,
@@ -114,18 +115,40 @@ fn rust_force_sweep(stiffness: f64, p: f64, eps_r: f64, c1: f64, c0: &mut [f64])
     }
 }
 
-/// A hammer in contact with a string, at 48 kHz: each call makes all its halvings.
+/// Of a string with z = 7.5 at 48 kHz.
+const C1: f64 = 1.0 / 48_000.0 / (2.0 * 7.5);
+
+/// How many inputs are drawn: the processor learns a few hundred by heart.
+const DRAWN: usize = 4_096;
+
+fn force_row(what: &str, target: f64, stiffness: f64, h: u32, c1: f64, inputs: Vec<f64>) -> Measured {
+    Block::new(inputs).sweep(
+        what,
+        Some(target),
+        |b| rust_force_sweep(stiffness, black_box(h as f64 / 2.0), 0.0, c1, &mut b.values),
+        |b| unsafe { leaf_force_sweep(stiffness, h, 0.0, c1, b.values.as_mut_ptr(), b.values.len()) },
+    )
+}
+
+/// A hammer in contact with a string.
 fn forces(rows: &mut Vec<Measured>, random: &mut Random) {
-    for h in 2..=10u32 {
-        let inputs: Vec<f64> = (0..128).map(|_| random.magnitude(-5.0, -3.0)).collect();
-        let (stiffness, c1) = (10f64.powf(4.0 + 0.75 * h as f64), 1.0 / 48_000.0 / (2.0 * 7.5));
-        let target = if h % 2 == 0 { 1.2 } else { 3.0 };
-        rows.push(Block::new(inputs).sweep(
-            &format!("contact_force, h = {h}"),
-            Some(target),
-            |b| rust_force_sweep(stiffness, black_box(h as f64 / 2.0), 0.0, c1, &mut b.values),
-            |b| unsafe { leaf_force_sweep(stiffness, h, 0.0, c1, b.values.as_mut_ptr(), b.values.len()) },
-        ));
+    for h in 2..=10 {
+        let inputs = (0..DRAWN).map(|_| random.magnitude(-5.0, -3.0)).collect();
+        let stiffness = 10f64.powf(4.0 + 0.75 * h as f64);
+        rows.push(force_row(&format!("contact_force, h = {h}"), 0.6, stiffness, h, C1, inputs));
+    }
+}
+
+/// The worst case: a stiff felt and a string that gives way, compressed by more than 10^15, where what is left of c0 is
+/// below its last digit. Both guesses miss there, and the felt's own halvings follow.
+fn missed_forces(rows: &mut Vec<Measured>, random: &mut Random) {
+    let (stiffness, c1) = (1e12, 1.0);
+    for h in [3, 4, 9, 10] {
+        let misses = |c0: &f64| unsafe { leaf_force_trials(stiffness, h, 0.0, *c0, c1) } == 3;
+        let drawn = (0..100 * DRAWN).map(|_| random.magnitude(15.0, 25.0));
+        let inputs: Vec<f64> = drawn.filter(misses).take(DRAWN).collect();
+        assert!(inputs.len() == DRAWN, "too few arguments that miss both guesses for h = {h}");
+        rows.push(force_row(&format!("contact_force, h = {h}, both guesses miss"), 2.3, stiffness, h, c1, inputs));
     }
 }
 
@@ -201,6 +224,7 @@ fn main() {
     roots(&mut rows, "normal numbers", normal, Some(4.0));
     roots(&mut rows, "subnormal numbers", subnormal, None);
     forces(&mut rows, &mut random);
+    missed_forces(&mut rows, &mut random);
     filters(&mut rows, &mut random);
     std::process::exit(if report(&rows) { 0 } else { 1 });
 }

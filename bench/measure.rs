@@ -43,6 +43,11 @@ pub fn measure<S, A>(
 }
 
 impl Measured {
+    /// Nanoseconds of the proved side.
+    pub fn rattle(&self) -> f64 {
+        self.rattle
+    }
+
     fn ratio(&self) -> f64 {
         self.rattle / self.rust
     }

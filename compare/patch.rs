@@ -1,6 +1,7 @@
 //! Writes the Rust renderer that we compare with: `patch FROM TO` reads model.rs and changes it only where
 //! document 01 says that we part from it. Each change must fit exactly as often as it is expected to.
-//! `patch FROM TO published` leaves `powf` as published, for the bench.
+//! `patch FROM TO published` leaves `powf` as published, and `patch FROM TO logged` has each contact's arguments
+//! handed to `crate::contacts::log`; both are for the benches.
 
 use std::process::exit;
 
@@ -41,6 +42,18 @@ const PATCHES: [Patch; 4] = [
     },
 ];
 
+/// Where a contact's force begins, and the same with its arguments handed on first.
+const CONTACT: &str = "        if c0 <= 0.0 || k * ";
+const LOGGED: &str = "        crate::contacts::log(k, p, eps_r, c0, c1);\n";
+
+/// What is made of the Rust.
+#[derive(Clone, Copy, PartialEq)]
+enum Kind {
+    Compared,
+    Published,
+    Logged,
+}
+
 /// A child module sees the private items of its parent; a `use` may stand anywhere in a module.
 const APPENDED: &str = "
 use crate::power::PowerInHalfSteps;
@@ -55,10 +68,11 @@ fn fail(message: String) -> ! {
 
 fn main() {
     let arguments: Vec<String> = std::env::args().skip(1).collect();
-    let (from, to, published) = match arguments.as_slice() {
-        [from, to] => (from, to, false),
-        [from, to, last] if last == "published" => (from, to, true),
-        _ => fail("usage: patch FROM TO [published]".to_string()),
+    let (from, to, kind) = match arguments.as_slice() {
+        [from, to] => (from, to, Kind::Compared),
+        [from, to, last] if last == "published" => (from, to, Kind::Published),
+        [from, to, last] if last == "logged" => (from, to, Kind::Logged),
+        _ => fail("usage: patch FROM TO [published|logged]".to_string()),
     };
     let mut text = std::fs::read_to_string(from).unwrap_or_else(|e| fail(format!("{from}: {e}")));
     for patch in &PATCHES {
@@ -69,11 +83,17 @@ fn main() {
                 patch.from, patch.times, patch.reason
             ));
         }
-        if !(published && patch.from == POWF) {
+        if !(kind == Kind::Published && patch.from == POWF) {
             text = text.replace(patch.from, patch.to);
         }
     }
-    if !published {
+    if kind == Kind::Logged {
+        if text.matches(CONTACT).count() != 1 {
+            fail(format!("{from}: `{CONTACT}` does not stand there once"));
+        }
+        text = text.replace(CONTACT, &format!("{LOGGED}{CONTACT}"));
+    }
+    if kind != Kind::Published {
         text.push_str(APPENDED);
     }
     std::fs::write(to, text).unwrap_or_else(|e| fail(format!("{to}: {e}")));

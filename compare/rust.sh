@@ -32,6 +32,11 @@ published_model() {
     target/compare/patch "$rust_source/model.rs" target/compare/published.rs published
 }
 
+# logged_model: makes target/compare/logged.rs, the patched Rust that hands on each contact's arguments.
+logged_model() {
+    target/compare/patch "$rust_source/model.rs" target/compare/logged.rs logged
+}
+
 # proved_library NAME: makes target/staticlib/libNAME.a; prints what rt said only where it fails.
 proved_library() {
     rt staticlib "$1" >target/compare/staticlib.log 2>&1 || {
