@@ -132,7 +132,8 @@ fn report(what: &str, ways: &Ways, held: bool) -> bool {
 fn drawn(random: &mut Random) -> Ways {
     for _ in 0..1_000_000 {
         let p = 0.5 * (2 + random.below(9)) as f64;
-        let (stiffness, c0, c1) = (random.magnitude(-3.0, 15.0), random.magnitude(-6.0, 1.0), random.magnitude(-12.0, 1.0));
+        let (stiffness, c0, c1) =
+            (random.magnitude(-3.0, 15.0), random.magnitude(-6.0, 1.0), random.magnitude(-12.0, 1.0));
         let eps_r = match random.below(3) {
             0 => 0.0,
             1 => c0.powf(p) * random.between(0.0, 1.0),

@@ -43,7 +43,8 @@ fn row(strings: usize, stages: usize, contact: bool) -> (Measured, f64) {
     }
     made.common.mass = 1_000.0;
     let strike = (0, Event::NoteOn { key: KEY, velocity: 3.0 });
-    let what = format!("{strings} strings, {stages} stages{}", if contact { ", in contact" } else { "" });
+    let plural = if strings == 1 { "" } else { "s" };
+    let what = format!("{strings} string{plural}, {stages} stages{}", if contact { ", in contact" } else { "" });
     let mut sides = Sides::new(made, SAMPLES, if contact { vec![strike] } else { Vec::new() }, 0);
     let share = sides.checked(&what);
     (measure(&what, None, SAMPLES, &mut sides, Sides::ready, Sides::rust, |s| s.rattle(SAMPLES)), share)

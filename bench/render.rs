@@ -75,8 +75,24 @@ const SETUPS: [Setup; 6] = [
         strikes: 1,
         targets: Some([0.55, 0.55]),
     },
-    Setup { name: "3 strings, 66 stages", keys: 1, strings: 3, ap_count: 66, samples: 1_024, strikes: 2, targets: None },
-    Setup { name: "22 strings, 12 stages", keys: 11, strings: 2, ap_count: 12, samples: 256, strikes: 1, targets: None },
+    Setup {
+        name: "3 strings, 66 stages",
+        keys: 1,
+        strings: 3,
+        ap_count: 66,
+        samples: 1_024,
+        strikes: 2,
+        targets: None,
+    },
+    Setup {
+        name: "22 strings, 12 stages",
+        keys: 11,
+        strings: 2,
+        ap_count: 12,
+        samples: 256,
+        strikes: 1,
+        targets: None,
+    },
     Setup { name: "32 strings, no stages", keys: 16, strings: 2, ap_count: 0, samples: 512, strikes: 1, targets: None },
 ];
 
