@@ -1,5 +1,5 @@
 // The kept cues in rising order.
-use cues::Cue;
+use session_cues::Cue;
 use text::put;
 use text::put_number;
 

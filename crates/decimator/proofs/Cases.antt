@@ -14,7 +14,7 @@ use lib.Ieee.{Float, nan, binary64, add, mul}
 use borrow.Author.Tests.{le-leb, lt-leb, lt-ltb, le-ltb, eq-eqb, ne-eqb, ltb-false, eqb-true}
 use Rattle.counting.specs.Below.{tabulate}
 use Rattle.counting.specs.Laws.{tabulate-more}
-use Rattle.decimator.specs.Decimate.{outputLength, refusalOf, weighed, summed, filteredAt, decimated, DecimateMeets}
+use Rattle.decimator.specs.Decimate.{outputLength, refusalOf, weighed, tapSum, filteredAt, decimated, DecimateMeets}
 use Rattle.decimator.specs.Steps.{Thins}
 
 -- ---- the output's length
@@ -119,8 +119,8 @@ module _ (x taps : List Float) (at k : ℕ) (sum : Float) where
   past-last h l = rw (le-leb 63 (at + k) h, le-ltb (at + k - 63) (length x) l)
 
 -- one tap more
-pub summed-more : (x taps : List Float) (at k : ℕ) (s r : Float) → s ≡ summed x taps at k → r ≡ weighed x taps at k s → r ≡ summed x taps at (k + 1)
-unfolding summed
+pub summed-more : (x taps : List Float) (at k : ℕ) (s r : Float) → s ≡ tapSum x taps at k → r ≡ weighed x taps at k s → r ≡ tapSum x taps at (k + 1)
+unfolding tapSum
 summed-more x taps at k s r e f = rw (add-one k, ← e) f
 
 -- ---- a loop that stores g i at each i

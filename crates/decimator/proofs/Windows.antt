@@ -9,7 +9,7 @@ use lib.ListN.{length, take, drop, getD, length-drop}
 use lib.Seq.{getD-take, getD-drop, length-take-le}
 use lib.Ieee.{Float, nan, binary64, add, mul}
 use Rattle.counting.specs.Laws.{lt-or-ge}
-use Rattle.decimator.specs.Decimate.{weighed, summed, filteredAt}
+use Rattle.decimator.specs.Decimate.{weighed, tapSum, filteredAt}
 use Rattle.decimator.proofs.Cases.{before-first, meets, past-last}
 
 -- the n samples from `first` on, around sample `at`
@@ -55,11 +55,11 @@ module _ (x taps : List Float) (first n at : ℕ) (inside : first + n ≤ length
         (lt-or-ge (at + k - 63) (length x)))
         (lt-or-ge (at + k) 63)
 
-  summed-same : (k : ℕ) → k ≤ 127 → summed window taps (at - first) k ≡ summed x taps at k
-  unfolding summed
+  summed-same : (k : ℕ) → k ≤ 127 → tapSum window taps (at - first) k ≡ tapSum x taps at k
+  unfolding tapSum
   summed-same zero h = refl
   summed-same (suc k) h =
-      ap (λ (s : Float). weighed window taps (at - first) k s) (summed-same k (omega arith)) ∙ weighed-same k (omega arith) (summed x taps at k)
+      ap (λ (s : Float). weighed window taps (at - first) k s) (summed-same k (omega arith)) ∙ weighed-same k (omega arith) (tapSum x taps at k)
 
   pub window-same : filteredAt window taps (at - first) ≡ filteredAt x taps at
   window-same = summed-same 127 (omega arith)

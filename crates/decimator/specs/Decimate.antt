@@ -26,17 +26,17 @@ weighed x taps at k sum =
     cond (leb 63 (at + k) && ltb (at + k - 63) (length x)) (add binary64 sum (mul binary64 (getD taps k nan) (getD x (at + k - 63) nan))) sum
 
 -- the first n taps, in order, from +0
-unfoldable pub summed : List Float → List Float → ℕ → ℕ → Float
+unfoldable pub tapSum : List Float → List Float → ℕ → ℕ → Float
 unfolding weighed
-summed x taps at zero = +0
-summed x taps at (suc n) = weighed x taps at n (summed x taps at n)
+tapSum x taps at zero = +0
+tapSum x taps at (suc n) = weighed x taps at n (tapSum x taps at n)
 
 abbrev pub filteredAt : List Float → List Float → ℕ → Float
-filteredAt x taps at = summed x taps at 127
+filteredAt x taps at = tapSum x taps at 127
 
 -- every factor-th sample, filtered; for factor 0 or 1 the signal
 unfoldable pub decimated : List Float → List Float → ℕ → List Float
-unfolding summed
+unfolding tapSum
 decimated x taps factor = cond (leb factor 1) x (tabulate (outputLength (length x) factor) (λ i. filteredAt x taps (i * factor)))
 
 -- what `decimate` promises: the refusal's number or 0; on refusal the output as it was; else the decimated signal

@@ -15,10 +15,10 @@ use Rattle.instrument.specs.Valid.{valid, keyAt}
 use Rattle.instrument.specs.ValidLaws.{valid-counts}
 use Rattle.instrument.specs.Work.{partCells}
 use Rattle.string.specs.declared.StringDesign.{StringDesign}
-use Rattle.string.specs.Table.{strings}
+use Rattle.string.specs.Table.{tableStrings}
 use Rattle.strings.specs.Strings.{AllFit, cellsOf}
-use Rattle.model.specs.Model.{stringsOf, StringsFilled}
-use Rattle.model.specs.Laws.{filled-fit, filled-strings}
+use Rattle.sample_constants.specs.Model.{stringsOf, StringsFilled}
+use Rattle.sample_constants.specs.Laws.{filled-fit, filled-strings}
 use Rattle.render.specs.Work.{cells-are}
 use Rattle.session_record.specs.declared.Session.{Session}
 use Rattle.session_record.specs.Record.{recordRefusal}
@@ -26,7 +26,7 @@ use Rattle.session_record.specs.Laws.{Passed, passed}
 use Rattle.energies.specs.declared.KeyEnergy.{KeyEnergy}
 use Rattle.energies.specs.declared.Energies.{Energies}
 use Rattle.energies.specs.declared.EnergiesAnswer.{EnergiesAnswer}
-use Rattle.energies.specs.Energy.{noEnergy, keyEnergy, ofKey, energiesOf, refusedWith, EnergiesMeet}
+use Rattle.energies.specs.Energy.{noEnergy, keyEnergy, ofKey, energiesOf, noEnergiesFor, EnergiesMeet}
 use Rattle.energies.specs.Steps.{sumsAfter, pairOf}
 use Rattle.energies.proofs.Sums.{key-sum}
 
@@ -35,12 +35,12 @@ few i h = let c = valid-counts i h in (c .fewKeys, c .fewStrings)
 
 module _ (i : Instrument) (h : valid i ≡ true) (lengths : List ℕ) (coefficients : List Float) (f : StringsFilled i lengths coefficients) (cells : List Float) where
   pub walkable : partCells i ≤ length cells
-      → AllFit lengths coefficients (i .«string_count») × (cellsOf (strings lengths coefficients (i .«string_count»)) ≤ length cells)
+      → AllFit lengths coefficients (i .«string_count») × (cellsOf (tableStrings lengths coefficients (i .«string_count»)) ≤ length cells)
   walkable room =
       let c = few i h in
       (filled-fit i lengths coefficients (c .0) f (c .1), rw (filled-strings i lengths coefficients (c .0) f) (omega (arith, cells-are i h, room)))
 
-  pub energies-are : (sums : List Float) (pairs : List KeyEnergy) → sums ≡ sumsAfter (strings lengths coefficients (i .«string_count»)) cells (replicate 16 +0)
+  pub energies-are : (sums : List Float) (pairs : List KeyEnergy) → sums ≡ sumsAfter (tableStrings lengths coefficients (i .«string_count»)) cells (replicate 16 +0)
       → pairs ≡ pad 16 noEnergy (tabulate (i .«key_count») (pairOf i sums)) → record { keys = pairs; count = i .«key_count» } ≡ energiesOf i cells
   unfolding energiesOf
   energies-are sums pairs es ep =
@@ -51,8 +51,8 @@ module _ (i : Instrument) (h : valid i ≡ true) (lengths : List ℕ) (coefficie
       ap (λ (l : List KeyEnergy). record { keys = l; count = i .«key_count» }) (ep ∙ ap (pad 16 noEnergy) (tabulate-cong (i .«key_count») (pairOf i sums) pair each))
 
 module _ (i : Instrument) (s : Session) (work : List Float) (n : ℕ) (e : n ≡ recordRefusal i s (length work)) where
-  pub energies-refused : (n ≡ 0 → ⊥) → (r : EnergiesAnswer) → r ≡ refusedWith n → EnergiesMeet i s work r
-  energies-refused h r er = record { refuses = λ x. er ∙ ap refusedWith e; accepts = λ z. absurd (h (e ∙ z)) }
+  pub energies-refused : (n ≡ 0 → ⊥) → (r : EnergiesAnswer) → r ≡ noEnergiesFor n → EnergiesMeet i s work r
+  energies-refused h r er = record { refuses = λ x. er ∙ ap noEnergiesFor e; accepts = λ z. absurd (h (e ∙ z)) }
 
   module _ (z : n ≡ 0) where
     pub fine : Passed i s (length work)

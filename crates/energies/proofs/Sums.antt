@@ -16,7 +16,7 @@ use Rattle.cells.specs.Fold.{foldParts}
 use Rattle.string.specs.declared.StringDesign.{StringDesign}
 use Rattle.string.specs.String.{sizeOf}
 use Rattle.string.specs.Table.{designAt}
-use Rattle.strings.specs.Walk.{At, at-turn}
+use Rattle.strings.specs.Walk.{WalkAt, at-turn}
 use Rattle.counting.specs.Below.{pad, tabulate}
 use Rattle.counting.specs.Laws.{length-tabulate, tabulate-more, pad-set}
 use Rattle.energies.specs.declared.KeyEnergy.{KeyEnergy}
@@ -53,9 +53,9 @@ kept i d p = p
 
 -- a turn of it, which carries b on
 pub turn-kept : {lengths : List ℕ} {coefficients w₀ a₀ w a : List Float} {n at i : ℕ}
-    → At kept summedInto lengths coefficients n w₀ a₀ w a at i → i < n → (d : StringDesign) → d ≡ designAt lengths coefficients i
+    → WalkAt kept summedInto lengths coefficients n w₀ a₀ w a at i → i < n → (d : StringDesign) → d ≡ designAt lengths coefficients i
     → (k : ℕ) (b : List Float) → k ≡ sizeOf d → b ≡ summedInto i d (take (at + k - at) (drop at w)) a
-    → At kept summedInto lengths coefficients n w₀ a₀ w b (at + k) (i + 1)
+    → WalkAt kept summedInto lengths coefficients n w₀ a₀ w b (at + k) (i + 1)
 turn-kept {w = w} {at = at} r hi d hd k b hk hb =
     rw (splice-same at (at + k - at) w) at (at-turn r hi d hd k (take (at + k - at) (drop at w)) b hk (λ p e. e) refl hb)
 

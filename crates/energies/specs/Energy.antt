@@ -15,7 +15,7 @@ use Rattle.instrument.specs.Valid.{keyAt}
 use Rattle.instrument.specs.Work.{partCells}
 use Rattle.string.specs.declared.StringDesign.{StringDesign}
 use Rattle.string.specs.String.{sizeOf, atAL, atBR, atBL, atCR, atCL}
-use Rattle.model.specs.Model.{stringsOf}
+use Rattle.sample_constants.specs.Model.{stringsOf}
 use Rattle.session_record.specs.declared.Session.{Session}
 use Rattle.session_record.specs.Record.{recordRefusal}
 use Rattle.energies.specs.declared.KeyEnergy.{KeyEnergy}
@@ -69,10 +69,10 @@ energiesOf i cells = record {
 }
 
 -- "A refusal returns its number alone": with zeros
-abbrev pub refusedWith : ℕ → EnergiesAnswer
-refusedWith n = record { refusal = n; energies = record { keys = replicate 16 noEnergy; count = 0 } }
+abbrev pub noEnergiesFor : ℕ → EnergiesAnswer
+noEnergiesFor n = record { refusal = n; energies = record { keys = replicate 16 noEnergy; count = 0 } }
 
 -- what `key_energies` promises: "energies 7 and 8", else the energies of "the piano now", which is work memory's first part and all that counts
 pub record EnergiesMeet (i : Instrument) (s : Session) (work : List Float) (r : EnergiesAnswer) : Type 0 where
-  pub refuses : (recordRefusal i s (length work) ≡ 0 → ⊥) → r ≡ refusedWith (recordRefusal i s (length work))
+  pub refuses : (recordRefusal i s (length work) ≡ 0 → ⊥) → r ≡ noEnergiesFor (recordRefusal i s (length work))
   pub accepts : recordRefusal i s (length work) ≡ 0 → r ≡ record { refusal = 0; energies = energiesOf i (take (partCells i) work) }

@@ -10,7 +10,7 @@ use Rattle.instrument.specs.Work.{partCells}
 use Rattle.session_record.specs.declared.Session.{Session}
 use Rattle.session_record.specs.Record.{recordRefusal}
 use Rattle.energies.specs.declared.EnergiesAnswer.{EnergiesAnswer}
-use Rattle.energies.specs.Energy.{energiesOf, refusedWith, EnergiesMeet}
+use Rattle.energies.specs.Energy.{energiesOf, noEnergiesFor, EnergiesMeet}
 
 -- two memories of one length whose first parts are alike
 pub first-part-decides : (i : Instrument) (s : Session) (work other : List Float) (r q : EnergiesAnswer) → length work ≡ length other → take (partCells i) work ≡ take (partCells i) other
@@ -22,4 +22,4 @@ first-part-decides i s work other r q n e a b = by-refusal (recordRefusal i s (l
 
     by-refusal : (m : ℕ) → recordRefusal i s (length work) ≡ m → r ≡ q
     by-refusal zero z = a .accepts z ∙ ap (λ (l : List Float). record { refusal = 0; energies = energiesOf i l }) e ∙ sym (b .accepts (sym same ∙ z))
-    by-refusal (suc m) z = a .refuses (λ x. omega (arith, x, z)) ∙ ap refusedWith same ∙ sym (b .refuses (λ x. omega (arith, same, x, z)))
+    by-refusal (suc m) z = a .refuses (λ x. omega (arith, x, z)) ∙ ap noEnergiesFor same ∙ sym (b .refuses (λ x. omega (arith, same, x, z)))

@@ -1,4 +1,4 @@
-// Document 01, "The session": `key_energies` as in the Rust. A line's energy is the sum of its cells' squares, a string's that of its six lines, a key's that of its strings; each sum
+// Document 01, "The session": `key_energies` as in the Rust. A line's energy is the sum of its cells' squares, a string's that of its six lines, a key's that of its tableStrings; each sum
 // starts at +0 and goes in the Rust's order. Work memory is lent shared: nothing changes.
 use instrument::Instrument;
 use session_record::Session;
@@ -12,9 +12,9 @@ ghost use Rattle.counting.specs.Below.{pad, tabulate};
 ghost use Rattle.instrument.specs.Valid.{valid};
 ghost use Rattle.instrument.specs.Work.{partCells};
 ghost use Rattle.string.specs.String.{Strung};
-ghost use Rattle.string.specs.Table.{strings};
+ghost use Rattle.string.specs.Table.{tableStrings};
 ghost use Rattle.strings.specs.Strings.{AllFit, cellsOf};
-ghost use Rattle.energies.specs.Energy.{lineEnergy, stringEnergy, noEnergy, energiesOf, refusedWith, EnergiesMeet};
+ghost use Rattle.energies.specs.Energy.{lineEnergy, stringEnergy, noEnergy, energiesOf, noEnergiesFor, EnergiesMeet};
 ghost use Rattle.energies.specs.Steps.{sumsAfter, pairOf};
 
 // A key's number and its energy.
@@ -80,8 +80,8 @@ fn sum_strings(
     n: usize,
 )
     requires { ⌜ AllFit (now lengths) (now coefficients) n ⌝ }
-    requires { ⌜ cellsOf (strings (now lengths) (now coefficients) n) ≤ length (now cells) ⌝ }
-    ensures { λ _. ⌜ now (sums .exit) ≡ sumsAfter (strings (now (lengths .entry)) (now (coefficients .entry)) n) (now (cells .entry)) (now (sums .entry)) ⌝ }
+    requires { ⌜ cellsOf (tableStrings (now lengths) (now coefficients) n) ≤ length (now cells) ⌝ }
+    ensures { λ _. ⌜ now (sums .exit) ≡ sumsAfter (tableStrings (now (lengths .entry)) (now (coefficients .entry)) n) (now (cells .entry)) (now (sums .entry)) ⌝ }
 {
     let mut at = 0usize;
     for i in 0..n {
@@ -124,7 +124,7 @@ pub fn part_energies(instrument: Instrument, cells: &[f64]) -> Energies
     requires { ⌜ (valid instrument ≡ true) × (partCells instrument ≤ length (now cells)) ⌝ }
     ensures { λ r. ⌜ r ≡ energiesOf instrument (now (cells .entry)) ⌝ }
 {
-    let tables = model::string_tables(instrument);
+    let tables = sample_constants::string_tables(instrument);
     let lengths = tables.lengths;
     let coefficients = tables.coefficients;
     let mut sums = [0.0; 16];
@@ -143,7 +143,7 @@ pub fn part_energies(instrument: Instrument, cells: &[f64]) -> Energies
 }
 
 fn refused(number: u64) -> EnergiesAnswer
-    ensures { λ r. ⌜ r ≡ refusedWith number ⌝ }
+    ensures { λ r. ⌜ r ≡ noEnergiesFor number ⌝ }
 {
     let none = no_energy();
     let energies = Energies {

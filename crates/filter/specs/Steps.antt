@@ -65,17 +65,17 @@ module _ (a v : Float) (n s k m : ℕ) (w : List Float) (hk : k ≡ n + n) (h : 
   next-part : part (s + k) m (rowAt a s k v w) ≡ part (s + k) m w
   next-part = part-past s k (s + k) first w refl first-length first-fits (s + k) m (omega arith)
 
-  half : length (part s k w) ≡ n + n
-  half = part-length s k w first-fits ∙ hk
+  both-halves : length (part s k w) ≡ n + n
+  both-halves = part-length s k w first-fits ∙ hk
 
   pub next-out : outAt a (s + k) m (outAt a s k v w) (rowAt a s k v w) ≡ outAt a s (k + m) v w
-  next-out = rw (next-part, part-add s k m w, out-add a v n (part s k w) (part (s + k) m w) half)
+  next-out = rw (next-part, part-add s k m w, out-add a v n (part s k w) (part (s + k) m w) both-halves)
 
   pub next-row : rowAt a (s + k) m (outAt a s k v w) (rowAt a s k v w) ≡ rowAt a s (k + m) v w
   next-row =
       ap (λ (l : List Float). splice (s + k) m (rowCells a l (outAt a s k v w)) (rowAt a s k v w)) next-part
       ∙ splice-next s k m first (rowCells a (part (s + k) m w) (outAt a s k v w)) w first-length first-fits
-      ∙ ap (λ (l : List Float). splice s (k + m) l w) (sym (cells-add a v n (part s k w) (part (s + k) m w) half))
+      ∙ ap (λ (l : List Float). splice s (k + m) l w) (sym (cells-add a v n (part s k w) (part (s + k) m w) both-halves))
       ∙ ap (λ (l : List Float). splice s (k + m) (rowCells a l v) w) (sym (part-add s k m w))
 
 -- Thiran's stage, n stages of the row, then what is left of it and the loss, are the loop filter.

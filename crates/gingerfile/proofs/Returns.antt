@@ -15,8 +15,8 @@ use Rattle.instrument.specs.declared.Instrument.{Instrument}
 use Rattle.instrument.specs.declared.ReadAnswer.{ReadAnswer}
 use Rattle.instrument.specs.File.{readOf, accepted}
 use Rattle.instrument.specs.ValidLaws.{valid-counts}
-use Rattle.instrument.specs.Work.{cellsOf}
-use Rattle.encoding.specs.Accepted.{accepted-valid}
+use Rattle.instrument.specs.Work.{countedPart}
+use Rattle.instrument_encoding.specs.Accepted.{accepted-valid}
 use Rattle.session_record.specs.declared.Session.{Session}
 use Rattle.session.specs.declared.Outcome.{Outcome}
 use Rattle.session.specs.Calls.{OpenMeets}
@@ -25,11 +25,11 @@ use Rattle.energies.specs.Energy.{EnergiesMeet}
 use Rattle.session_words.specs.declared.Read.{Read}
 use Rattle.session_words.specs.Session.{wordsOf, sessionOf, isSession, isEvent, ReadMeets, PutMeets}
 use Rattle.session_words.specs.Laws.{are-words}
-use Rattle.gingerfile.specs.declared.Reply.{Reply}
+use Rattle.gingerfile.specs.declared.Reply.{Report}
 use Rattle.gingerfile.specs.declared.KeyEnergies.{KeyEnergies}
 use Rattle.gingerfile.specs.Laws.{Stays}
 use Rattle.gingerfile.specs.Energies.{energyOf, numberOf, noEnergies, flatOf, EnergiesCross}
-use Rattle.gingerfile.specs.Crossing.{refusedBy, replyOf, sizesOf, Keeps, Crosses, InsertCrosses, OpenCrosses}
+use Rattle.gingerfile.specs.Crossing.{refusedBy, reportOf, sizesOf, Keeps, Crosses, InsertCrosses, OpenCrosses}
 
 -- ---- the file
 
@@ -50,7 +50,7 @@ module _ (f : List ℕ) (g : ReadAnswer) (eg : g ≡ readOf f) where
   unfolding sizesOf
   sizes-refused n x h e k = rw (← eg, ne-eqb (g .refusal) 0 h, e, k)
 
-  pub sizes-given : (work : ℕ) → g .refusal ≡ 0 → work ≡ 5 * cellsOf (g .instrument)
+  pub sizes-given : (work : ℕ) → g .refusal ≡ 0 → work ≡ 5 * countedPart (g .instrument)
       → record {
         refusal = 0;
         fs = g .instrument .common .fs;
@@ -69,13 +69,13 @@ pub session-long : (w : List ℕ) (rd : Read) → ReadMeets w rd → rd .«is_se
 unfolding isSession
 session-long w rd e h = eqb-true (length w) 541 (and-left (eqb (length w) 541) _ (sym (e .answer) ∙ h))
 
-pub keeps-whole : (o : Outcome) (w w′ : List ℕ) (t : Bool) (r : Reply) → length w ≡ 541 → PutMeets (o .session) w t w′ → r ≡ replyOf (o .answer) → Keeps o r w′
+pub keeps-whole : (o : Outcome) (w w′ : List ℕ) (t : Bool) (r : Report) → length w ≡ 541 → PutMeets (o .session) w t w′ → r ≡ reportOf (o .answer) → Keeps o r w′
 keeps-whole o w w′ t r h p e = record { reply = e; words = p .writes (p .answer ∙ eq-eqb (length w) 541 h) }
 
 -- ---- a call
 
 module _ (f w : List ℕ) (Same : Type 0) (Meets : Instrument → Session → Outcome → Type 0) (g : ReadAnswer) (eg : g ≡ readOf f) where
-  pub crosses-file : (g .refusal ≡ 0 → ⊥) → (n : ℕ) (r : Reply) → n ≡ g .refusal → r ≡ refusedBy n → Same → Crosses f w r w Same Meets
+  pub crosses-file : (g .refusal ≡ 0 → ⊥) → (n : ℕ) (r : Report) → n ≡ g .refusal → r ≡ refusedBy n → Same → Crosses f w r w Same Meets
   crosses-file h n r en er same =
       record {
         file = λ _. (er ∙ ap refusedBy (en ∙ ap (λ (x : ReadAnswer). x .refusal) eg), refl, same);
@@ -85,7 +85,7 @@ module _ (f w : List ℕ) (Same : Type 0) (Meets : Instrument → Session → Ou
       }
 
   module _ (h : g .refusal ≡ 0) (rd : Read) (ed : ReadMeets w rd) where
-    pub crosses-record : rd .«is_session» ≡ false → (r : Reply) → r ≡ refusedBy 7 → Same → Crosses f w r w Same Meets
+    pub crosses-record : rd .«is_session» ≡ false → (r : Report) → r ≡ refusedBy 7 → Same → Crosses f w r w Same Meets
     crosses-record k r er same =
         record {
           file = λ z. absurd (z (now-is f g eg h));
@@ -95,7 +95,7 @@ module _ (f w : List ℕ) (Same : Type 0) (Meets : Instrument → Session → Ou
         }
 
     -- `still`: a refused call leaves the session
-    pub crosses-call : ((i : Instrument) (s : Session) (o : Outcome) → Meets i s o → Stays i s o) → rd .«is_session» ≡ true → (r : Reply) (w′ : List ℕ) (o : Outcome)
+    pub crosses-call : ((i : Instrument) (s : Session) (o : Outcome) → Meets i s o → Stays i s o) → rd .«is_session» ≡ true → (r : Report) (w′ : List ℕ) (o : Outcome)
         → Meets (g .instrument) (rd .session) o → Keeps o r w′ → Crosses f w r w′ Same Meets
     crosses-call still k r w′ o m keeps =
         record {
@@ -107,20 +107,20 @@ module _ (f w : List ℕ) (Same : Type 0) (Meets : Instrument → Session → Ou
             keeps = keeps;
           };
           stays = λ not.
-              let same = still (g .instrument) (rd .session) o m (λ z. not (ap (λ (x : Reply). x .refusal) (keeps .reply) ∙ z)) in
+              let same = still (g .instrument) (rd .session) o m (λ z. not (ap (λ (x : Report). x .refusal) (keeps .reply) ∙ z)) in
               keeps .words ∙ ap wordsOf (same ∙ ed .reads k) ∙ are-words w (sym (ed .answer) ∙ k);
         }
 
 -- ---- insert, whose event is numbers too
 
 module _ (kind key : ℕ) (f w : List ℕ) (Same : Type 0) (Meets : Instrument → Session → Outcome → Type 0) (g : ReadAnswer) (eg : g ≡ readOf f) where
-  pub insert-file : (g .refusal ≡ 0 → ⊥) → (n : ℕ) (r : Reply) → n ≡ g .refusal → r ≡ refusedBy n → Same → InsertCrosses kind key f w r w Same Meets
+  pub insert-file : (g .refusal ≡ 0 → ⊥) → (n : ℕ) (r : Report) → n ≡ g .refusal → r ≡ refusedBy n → Same → InsertCrosses kind key f w r w Same Meets
   insert-file h n r en er same =
       let c = crosses-file f w Same Meets g eg h n r en er same in
       record { none = λ _ z. absurd (h (was f g eg z)); event = λ _. c; file = c .file }
 
   module _ (h : g .refusal ≡ 0) where
-    pub insert-none : (t : Bool) → t ≡ isEvent kind key → t ≡ false → (r : Reply) → r ≡ refusedBy 7 → Same → InsertCrosses kind key f w r w Same Meets
+    pub insert-none : (t : Bool) → t ≡ isEvent kind key → t ≡ false → (r : Report) → r ≡ refusedBy 7 → Same → InsertCrosses kind key f w r w Same Meets
     insert-none t et k r er same =
         record {
           none = λ _ _. (er, refl, same);
@@ -128,12 +128,12 @@ module _ (kind key : ℕ) (f w : List ℕ) (Same : Type 0) (Meets : Instrument �
           file = λ z. absurd (z (now-is f g eg h));
         }
 
-    pub insert-record : (rd : Read) → ReadMeets w rd → rd .«is_session» ≡ false → (r : Reply) → r ≡ refusedBy 7 → Same → InsertCrosses kind key f w r w Same Meets
+    pub insert-record : (rd : Read) → ReadMeets w rd → rd .«is_session» ≡ false → (r : Report) → r ≡ refusedBy 7 → Same → InsertCrosses kind key f w r w Same Meets
     insert-record rd ed k r er same =
         let c = crosses-record f w Same Meets g eg h rd ed k r er same in
         record { none = λ _ _. (er, refl, same); event = λ _. c; file = c .file }
 
-    pub insert-call : ((i : Instrument) (s : Session) (o : Outcome) → Meets i s o → Stays i s o) → (t : Bool) → t ≡ isEvent kind key → t ≡ true → (rd : Read) → ReadMeets w rd → rd .«is_session» ≡ true → (r : Reply) (w′ : List ℕ) (o : Outcome)
+    pub insert-call : ((i : Instrument) (s : Session) (o : Outcome) → Meets i s o → Stays i s o) → (t : Bool) → t ≡ isEvent kind key → t ≡ true → (rd : Read) → ReadMeets w rd → rd .«is_session» ≡ true → (r : Report) (w′ : List ℕ) (o : Outcome)
         → Meets (g .instrument) (rd .session) o → Keeps o r w′ → InsertCrosses kind key f w r w′ Same Meets
     insert-call still t et k rd ed l r w′ o m keeps =
         let c = crosses-call f w Same Meets g eg h rd ed still l r w′ o m keeps in
@@ -142,7 +142,7 @@ module _ (kind key : ℕ) (f w : List ℕ) (Same : Type 0) (Meets : Instrument �
 -- ---- open
 
 module _ (f w : List ℕ) (work : List Float) (g : ReadAnswer) (eg : g ≡ readOf f) where
-  pub open-file : (g .refusal ≡ 0 → ⊥) → (n : ℕ) (r : Reply) → n ≡ g .refusal → r ≡ refusedBy n → OpenCrosses f w work r w work
+  pub open-file : (g .refusal ≡ 0 → ⊥) → (n : ℕ) (r : Report) → n ≡ g .refusal → r ≡ refusedBy n → OpenCrosses f w work r w work
   open-file h n r en er =
       record {
         file = λ _. (er ∙ ap refusedBy (en ∙ ap (λ (x : ReadAnswer). x .refusal) eg), refl, refl);
@@ -151,7 +151,7 @@ module _ (f w : List ℕ) (work : List Float) (g : ReadAnswer) (eg : g ≡ readO
       }
 
   module _ (h : g .refusal ≡ 0) where
-    pub open-record : (length w ≡ 541 → ⊥) → (r : Reply) → r ≡ refusedBy 7 → OpenCrosses f w work r w work
+    pub open-record : (length w ≡ 541 → ⊥) → (r : Report) → r ≡ refusedBy 7 → OpenCrosses f w work r w work
     open-record k r er =
         record {
           file = λ z. absurd (z (now-is f g eg h));
@@ -159,7 +159,7 @@ module _ (f w : List ℕ) (work : List Float) (g : ReadAnswer) (eg : g ≡ readO
           opens = λ _ z. absurd (k z);
         }
 
-    module _ (k : length w ≡ 541) (work′ : List Float) (o : Outcome) (m : OpenMeets (g .instrument) work o work′) (r : Reply) (er : r ≡ replyOf (o .answer)) where
+    module _ (k : length w ≡ 541) (work′ : List Float) (o : Outcome) (m : OpenMeets (g .instrument) work o work′) (r : Report) (er : r ≡ reportOf (o .answer)) where
       opened : (w′ : List ℕ) → (r .refusal ≡ 0 → w′ ≡ wordsOf (o .session)) → ((r .refusal ≡ 0 → ⊥) → w′ ≡ w) → OpenCrosses f w work r w′ work′
       opened w′ a b =
           record {
@@ -177,8 +177,8 @@ module _ (f w : List ℕ) (work : List Float) (g : ReadAnswer) (eg : g ≡ readO
       pub open-refuses : (r .refusal ≡ 0 → ⊥) → OpenCrosses f w work r w work′
       open-refuses z = opened w (λ e. absurd (z e)) (λ _. refl)
 
-      pub open-accepts : (q : Reply) (w′ : List ℕ) → r .refusal ≡ 0 → Keeps o q w′ → OpenCrosses f w work q w′ work′
-      open-accepts q w′ z keeps = subst (λ (x : Reply). OpenCrosses f w work x w′ work′) (er ∙ sym (keeps .reply)) (opened w′ (λ _. keeps .words) (λ e. absurd (e z)))
+      pub open-accepts : (q : Report) (w′ : List ℕ) → r .refusal ≡ 0 → Keeps o q w′ → OpenCrosses f w work q w′ work′
+      open-accepts q w′ z keeps = subst (λ (x : Report). OpenCrosses f w work x w′ work′) (er ∙ sym (keeps .reply)) (opened w′ (λ _. keeps .words) (λ e. absurd (e z)))
 
 -- ---- energies
 

@@ -8,7 +8,7 @@ ghost use Rattle.decimator.specs.Decimate.{outputLength, DecimateMeets};
 ghost use Rattle.instrument.specs.File.{readOf};
 ghost use Rattle.session.specs.Calls.{PlayMeets, CueMeets, GoMeets, InsertMeets, RemoveMeets};
 ghost use Rattle.session_words.specs.Session.{eventOf};
-ghost use Rattle.gingerfile.specs.Crossing.{refusedBy, replyOf, sizesOf, Keeps, Crosses, OpenCrosses, InsertCrosses};
+ghost use Rattle.gingerfile.specs.Crossing.{refusedBy, reportOf, sizesOf, Keeps, Crosses, OpenCrosses, InsertCrosses};
 ghost use Rattle.gingerfile.specs.Energies.{energyOf, numberOf, noEnergies, EnergiesCross};
 use energies::KeyEnergy;
 use score::TimedEvent;
@@ -17,7 +17,7 @@ use session::Outcome;
 
 // What a call answers: the refusal's number, 0 for none; play's number of forces, go's number of samples or an edit's t; and an edit's number of cues dropped.
 #[repr(C)]
-pub struct Reply {
+pub struct Report {
     pub refusal: u64,
     pub value: u64,
     pub dropped: u64,
@@ -46,46 +46,46 @@ pub struct KeyEnergies {
 
 const RECORD: u64 = 7;
 
-fn refused(number: u64) -> Reply
+fn refused(number: u64) -> Report
     ensures { λ r. ⌜ r ≡ refusedBy number ⌝ }
 {
-    Reply {
+    Report {
         refusal: number,
         value: 0,
         dropped: 0,
     }
 }
 
-fn reply_of(answer: Answer) -> Reply
-    ensures { λ r. ⌜ r ≡ replyOf answer ⌝ }
+fn report_of(answer: Answer) -> Report
+    ensures { λ r. ⌜ r ≡ reportOf answer ⌝ }
 {
     match answer {
-        Answer::Refused(number) => Reply {
+        Answer::Refused(number) => Report {
             refusal: number,
             value: 0,
             dropped: 0,
         },
-        Answer::Opened => Reply {
+        Answer::Opened => Report {
             refusal: 0,
             value: 0,
             dropped: 0,
         },
-        Answer::Played(k) => Reply {
+        Answer::Played(k) => Report {
             refusal: 0,
             value: k as u64,
             dropped: 0,
         },
-        Answer::Cued => Reply {
+        Answer::Cued => Report {
             refusal: 0,
             value: 0,
             dropped: 0,
         },
-        Answer::Went(number) => Reply {
+        Answer::Went(number) => Report {
             refusal: 0,
             value: number,
             dropped: 0,
         },
-        Answer::Edited { t, dropped } => Reply {
+        Answer::Edited { t, dropped } => Report {
             refusal: 0,
             value: t,
             dropped,
@@ -94,14 +94,14 @@ fn reply_of(answer: Answer) -> Reply
 }
 
 // The session after a call is written over the one before it.
-fn keep(words: &mut [u64], outcome: Outcome) -> Reply
+fn keep(words: &mut [u64], outcome: Outcome) -> Report
     requires { ⌜ length (now words) ≡ 541 ⌝ }
     ensures { λ r. ⌜ Keeps outcome r (now (words .exit)) ⌝ }
 {
     let session = outcome.session;
     let answer = outcome.answer;
     session_words::put_session(words, session);
-    reply_of(answer)
+    report_of(answer)
 }
 
 #[no_mangle]
@@ -135,7 +135,7 @@ pub extern "C" fn gingerfile_read(file: &[u8]) -> Sizes
 }
 
 #[no_mangle]
-pub extern "C" fn gingerfile_open(file: &[u8], words: &mut [u64], work: &mut [f64]) -> Reply
+pub extern "C" fn gingerfile_open(file: &[u8], words: &mut [u64], work: &mut [f64]) -> Report
     ensures { λ r. ⌜ OpenCrosses (now (file .entry)) (now (words .entry)) (now (work .entry)) r (now (words .exit)) (now (work .exit)) ⌝ }
 {
     let given = instrument::read(file);
@@ -146,7 +146,7 @@ pub extern "C" fn gingerfile_open(file: &[u8], words: &mut [u64], work: &mut [f6
         let instrument = given.instrument;
         let outcome = session::open(instrument, work);
         let answer = outcome.answer;
-        let reply = reply_of(answer);
+        let reply = report_of(answer);
         if reply.refusal != 0 {
             return reply;
         }
@@ -163,7 +163,7 @@ pub extern "C" fn gingerfile_play(
     scratch: &mut [f64],
     out: &mut [f64],
     trace: &mut [f64],
-) -> Reply
+) -> Report
     ensures { λ r. ⌜ Crosses (now (file .entry)) (now (words .entry)) r (now (words .exit))
         ((now (work .exit) ≡ now (work .entry)) × (now (out .exit) ≡ now (out .entry)) × (now (trace .exit) ≡ now (trace .entry)))
         (λ i s o. PlayMeets i s (now (work .entry)) (length (now (scratch .entry))) (now (out .entry)) (now (trace .entry)) o (now (work .exit)) (now (out .exit)) (now (trace .exit))) ⌝ }
@@ -183,7 +183,7 @@ pub extern "C" fn gingerfile_play(
 }
 
 #[no_mangle]
-pub extern "C" fn gingerfile_cue(file: &[u8], words: &mut [u64], work: &mut [f64]) -> Reply
+pub extern "C" fn gingerfile_cue(file: &[u8], words: &mut [u64], work: &mut [f64]) -> Report
     ensures { λ r. ⌜ Crosses (now (file .entry)) (now (words .entry)) r (now (words .exit)) (now (work .exit) ≡ now (work .entry))
         (λ i s o. CueMeets i s (now (work .entry)) o (now (work .exit))) ⌝ }
 {
@@ -208,7 +208,7 @@ pub extern "C" fn gingerfile_go(
     work: &mut [f64],
     scratch: &mut [f64],
     p: u64,
-) -> Reply
+) -> Report
     ensures { λ r. ⌜ Crosses (now (file .entry)) (now (words .entry)) r (now (words .exit)) (now (work .exit) ≡ now (work .entry))
         (λ i s o. GoMeets i s (now (work .entry)) (length (now (scratch .entry))) p o (now (work .exit))) ⌝ }
 {
@@ -236,7 +236,7 @@ pub extern "C" fn gingerfile_insert(
     kind: u64,
     key: u64,
     velocity: f64,
-) -> Reply
+) -> Report
     ensures { λ r. ⌜ InsertCrosses kind key (now (file .entry)) (now (words .entry)) r (now (words .exit)) (now (work .exit) ≡ now (work .entry))
         (λ i s o. InsertMeets i s (now (work .entry)) (record { position = position; event = eventOf kind key velocity }) o (now (work .exit))) ⌝ }
 {
@@ -265,7 +265,7 @@ pub extern "C" fn gingerfile_remove(
     words: &mut [u64],
     work: &mut [f64],
     index: usize,
-) -> Reply
+) -> Report
     ensures { λ r. ⌜ Crosses (now (file .entry)) (now (words .entry)) r (now (words .exit)) (now (work .exit) ≡ now (work .entry))
         (λ i s o. RemoveMeets i s (now (work .entry)) index o (now (work .exit))) ⌝ }
 {

@@ -6,13 +6,13 @@ use native.Mathlib.Omega.{arith}
 use lib.ListN.{length, replicate, set}
 use lib.Seq.{sets}
 use Rattle.little_endian.specs.Numbers.{byteAt}
-use Rattle.design.specs.declared.KeyDesign.{KeyDesign}
-use Rattle.design.specs.declared.LoopDesign.{LoopDesign}
-use Rattle.design.specs.Fields.{keyOf}
-use Rattle.design.specs.Unused.{noKey, noString}
+use Rattle.instrument_fields.specs.declared.KeyDesign.{KeyDesign}
+use Rattle.instrument_fields.specs.declared.LoopDesign.{LoopDesign}
+use Rattle.instrument_fields.specs.Fields.{keyOf}
+use Rattle.instrument_fields.specs.Unused.{noKey, noString}
 use Rattle.counting.specs.Below.{tabulate, gather, pad}
 use Rattle.counting.specs.Laws.{tabulate-more, length-tabulate, gather-more, pad-set, pad-sets, sets-more}
-use Rattle.instrument.specs.File.{keySection, stringIn, keysIn, stringsIn}
+use Rattle.instrument.specs.File.{keySection, loopIn, keysIn, stringsIn}
 use Rattle.instrument.specs.Given.{runIn, run-length, strings-length, count-in, sum-in}
 use Rattle.instrument.specs.Valid.{keyAt, stringSum}
 use Rattle.instrument.specs.ValidLaws.{string-sum-within}
@@ -36,10 +36,10 @@ module _ (f : List ℕ) where
   unfolding stringsIn gather pad
   strings-start s e = ap (λ (x : LoopDesign). replicate 32 x) e
 
-pub put-more : (b : List ℕ) (m j : ℕ) (old out : List LoopDesign) (v : LoopDesign) → out ≡ sets old m (tabulate j (stringIn b)) → v ≡ stringIn b j
-    → set out (m + j) v ≡ sets old m (tabulate (j + 1) (stringIn b))
+pub put-more : (b : List ℕ) (m j : ℕ) (old out : List LoopDesign) (v : LoopDesign) → out ≡ sets old m (tabulate j (loopIn b)) → v ≡ loopIn b j
+    → set out (m + j) v ≡ sets old m (tabulate (j + 1) (loopIn b))
 put-more b m j old out v eo ev =
-    let t : ℕ → LoopDesign = stringIn b in
+    let t : ℕ → LoopDesign = loopIn b in
     rw (eo, ev)
     (sym (ap (sets old m) (tabulate-more j t) ∙ sets-more old (tabulate j t) m (t j) ∙ ap (λ (n : ℕ). set (sets old m (tabulate j t)) (m + n) (t j)) (length-tabulate j t)))
 
@@ -49,7 +49,7 @@ module _ (f : List ℕ) (n : ℕ) (keys : List KeyDesign) (is : keys ≡ pad 16 
   strings-room i h = let w = string-sum-within keys n i h in omega arith
 
   pub strings-more : (i m : ℕ) (b : List ℕ) (out r : List LoopDesign) → i < n → m ≡ stringSum keys i → out ≡ pad 32 noString (stringsIn f i) → b ≡ keySection f i
-      → r ≡ sets out m (tabulate (keyAt keys i .strings) (stringIn b)) → r ≡ pad 32 noString (stringsIn f (i + 1))
+      → r ≡ sets out m (tabulate (keyAt keys i .strings) (loopIn b)) → r ≡ pad 32 noString (stringsIn f (i + 1))
   unfolding stringsIn
   strings-more i m b out r h em eo eb er =
       let s : keyAt keys i .strings ≡ byteAt (keySection f i) 2 = ap (λ (l : List KeyDesign). keyAt l i .strings) is ∙ count-in f n i h in

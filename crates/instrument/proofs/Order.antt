@@ -5,10 +5,10 @@ use mathlib.Core.List.{List}
 use Prim.Native.Nat.{ℕ, _-_, _≤_, _<_}
 use borrow.Author.Tests.{lt-ltb, le-ltb, not-true, not-false}
 use Rattle.little_endian.specs.Numbers.{u32At}
-use Rattle.design.specs.declared.KeyDesign.{KeyDesign}
+use Rattle.instrument_fields.specs.declared.KeyDesign.{KeyDesign}
 use Rattle.counting.specs.Every.{every, everyAfter}
-use Rattle.design.specs.Ranges.{commonInRange}
-use Rattle.design.specs.Unused.{noKey}
+use Rattle.instrument_fields.specs.Ranges.{commonInRange}
+use Rattle.instrument_fields.specs.Unused.{noKey}
 use Rattle.instrument.specs.declared.Instrument.{Instrument}
 use Rattle.counting.specs.Below.{pad}
 use Rattle.instrument.specs.File.{headed, chained, measured, fielded, keysIn, instrumentOf, refused, accepted, readOf}

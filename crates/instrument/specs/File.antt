@@ -5,12 +5,12 @@ use mathlib.Core.Bool.{Bool, not, cond}
 use lib.Dec.{leb, ltb, eqb}
 use lib.ListN.{length, take, drop}
 use Rattle.little_endian.specs.Numbers.{byteAt, u32At}
-use Rattle.design.specs.declared.KeyDesign.{KeyDesign}
-use Rattle.design.specs.declared.LoopDesign.{LoopDesign}
+use Rattle.instrument_fields.specs.declared.KeyDesign.{KeyDesign}
+use Rattle.instrument_fields.specs.declared.LoopDesign.{LoopDesign}
 use Rattle.counting.specs.Every.{every}
-use Rattle.design.specs.Fields.{commonOf, keyOf, stringOf}
-use Rattle.design.specs.Ranges.{commonInRange, keyInRange, stringInRange}
-use Rattle.design.specs.Unused.{noCommon, noKey, noString}
+use Rattle.instrument_fields.specs.Fields.{commonOf, keyOf, loopOf}
+use Rattle.instrument_fields.specs.Ranges.{commonInRange, keyInRange, stringInRange}
+use Rattle.instrument_fields.specs.Unused.{noCommon, noKey, noString}
 use Rattle.instrument.specs.declared.Instrument.{Instrument}
 use Rattle.instrument.specs.declared.ReadAnswer.{ReadAnswer}
 use Rattle.counting.specs.Below.{allBelow, gather, tabulate, pad}
@@ -50,12 +50,12 @@ unfoldable pub measured : List ℕ → ℕ → Bool
 measured f n = every (eqb (length (section f 0)) 76 ∷ allBelow n (λ k. measuredKey (keySection f k)) ∷ [])
 
 -- "then s strings of 44 bytes": string j of a key's section
-unfoldable pub stringIn : List ℕ → ℕ → LoopDesign
-stringIn b j = stringOf (take 44 (drop (36 + 44 * j) b))
+unfoldable pub loopIn : List ℕ → ℕ → LoopDesign
+loopIn b j = loopOf (take 44 (drop (36 + 44 * j) b))
 
 -- not 4: "Another field is out of range, NaN or infinite, or the zero byte isn't 0."
 unfoldable pub fieldedKey : List ℕ → Bool
-fieldedKey b = every (leb (byteAt b 1) 1 ∷ eqb (byteAt b 3) 0 ∷ keyInRange (keyOf b) ∷ allBelow (byteAt b 2) (λ j. stringInRange (stringIn b j)) ∷ [])
+fieldedKey b = every (leb (byteAt b 1) 1 ∷ eqb (byteAt b 3) 0 ∷ keyInRange (keyOf b) ∷ allBelow (byteAt b 2) (λ j. stringInRange (loopIn b j)) ∷ [])
 
 unfoldable pub fielded : List ℕ → ℕ → Bool
 fielded f n = every (commonInRange (commonOf (section f 0)) ∷ allBelow n (λ k. fieldedKey (keySection f k)) ∷ [])
@@ -65,7 +65,7 @@ unfoldable pub keysIn : List ℕ → ℕ → List KeyDesign
 keysIn f n = tabulate n (λ k. keyOf (keySection f k))
 
 unfoldable pub stringsIn : List ℕ → ℕ → List LoopDesign
-stringsIn f n = gather n (λ k. tabulate (byteAt (keySection f k) 2) (stringIn (keySection f k)))
+stringsIn f n = gather n (λ k. tabulate (byteAt (keySection f k) 2) (loopIn (keySection f k)))
 
 unfoldable pub instrumentOf : List ℕ → ℕ → Instrument
 instrumentOf f n = record {

@@ -7,15 +7,15 @@ use native.Mathlib.Omega.{arith}
 use lib.ListN.{length}
 use borrow.Author.Tests.{leb-true}
 use Rattle.little_endian.specs.Numbers.{byteAt, u32At}
-use Rattle.design.specs.declared.KeyDesign.{KeyDesign}
-use Rattle.design.specs.declared.LoopDesign.{LoopDesign}
+use Rattle.instrument_fields.specs.declared.KeyDesign.{KeyDesign}
+use Rattle.instrument_fields.specs.declared.LoopDesign.{LoopDesign}
 use Rattle.counting.specs.Every.{holds}
-use Rattle.design.specs.Fields.{keyOf}
-use Rattle.design.specs.Ranges.{keyInRange}
-use Rattle.design.specs.Unused.{noKey}
+use Rattle.instrument_fields.specs.Fields.{keyOf}
+use Rattle.instrument_fields.specs.Ranges.{keyInRange}
+use Rattle.instrument_fields.specs.Unused.{noKey}
 use Rattle.counting.specs.Below.{sumBelow, tabulate, pad}
 use Rattle.counting.specs.Laws.{all-at, all-build, sum-cong, length-tabulate, getD-tabulate, length-gather, pad-first}
-use Rattle.instrument.specs.File.{headed, keySection, stringIn, fieldedKey, fielded, keysIn, stringsIn}
+use Rattle.instrument.specs.File.{headed, keySection, loopIn, fieldedKey, fielded, keysIn, stringsIn}
 use Rattle.instrument.specs.Valid.{pastKey, keyAt, keysInRange, stringSum}
 
 -- D of a headed file
@@ -34,11 +34,11 @@ countIn f k = byteAt (keySection f k) 2
 
 -- the strings of key k
 abbrev pub runIn : List ℕ → ℕ → List LoopDesign
-runIn f k = tabulate (countIn f k) (stringIn (keySection f k))
+runIn f k = tabulate (countIn f k) (loopIn (keySection f k))
 
 module _ (f : List ℕ) where
   pub run-length : (k : ℕ) → length (runIn f k) ≡ countIn f k
-  run-length k = length-tabulate (countIn f k) (stringIn (keySection f k))
+  run-length k = length-tabulate (countIn f k) (loopIn (keySection f k))
 
   pub strings-length : (n : ℕ) → length (stringsIn f n) ≡ sumBelow n (countIn f)
   unfolding stringsIn

@@ -5,11 +5,11 @@ use mathlib.Core.Bool.{Bool, false, not}
 use lib.Dec.{leb, eqb}
 use lib.ListN.{getD}
 use lib.Ieee.{nan}
-use Rattle.design.specs.declared.KeyDesign.{KeyDesign}
-use Rattle.design.specs.declared.LoopDesign.{LoopDesign}
+use Rattle.instrument_fields.specs.declared.KeyDesign.{KeyDesign}
+use Rattle.instrument_fields.specs.declared.LoopDesign.{LoopDesign}
 use Rattle.counting.specs.Every.{every}
-use Rattle.design.specs.Ranges.{commonInRange, keyInRange, stringInRange}
-use Rattle.design.specs.Unused.{isNoKey, isNoString}
+use Rattle.instrument_fields.specs.Ranges.{commonInRange, keyInRange, stringInRange}
+use Rattle.instrument_fields.specs.Unused.{isNoKey, isNoString}
 use Rattle.instrument.specs.declared.Instrument.{Instrument}
 use Rattle.counting.specs.Below.{allBelow, sumBelow}
 

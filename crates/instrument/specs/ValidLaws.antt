@@ -5,9 +5,9 @@ use mathlib.Core.List.{List}
 use Prim.Native.Nat.{ℕ, _+_, _≤_, _<_}
 use native.Mathlib.Omega.{arith}
 use borrow.Author.Tests.{leb-true, eqb-true}
-use Rattle.design.specs.declared.KeyDesign.{KeyDesign}
+use Rattle.instrument_fields.specs.declared.KeyDesign.{KeyDesign}
 use Rattle.counting.specs.Every.{holds}
-use Rattle.design.specs.Ranges.{commonInRange, keyInRange, stringInRange}
+use Rattle.instrument_fields.specs.Ranges.{commonInRange, keyInRange, stringInRange}
 use Rattle.instrument.specs.declared.Instrument.{Instrument}
 use Rattle.counting.specs.Below.{sumBelow}
 use Rattle.counting.specs.Laws.{all-at, sum-more, sum-within}

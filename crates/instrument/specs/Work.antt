@@ -2,7 +2,7 @@
 use mathlib.Core.Bool.{_&&_, cond}
 use Prim.Native.Nat.{ℕ, _+_, _*_}
 use lib.Dec.{leb}
-use Rattle.design.specs.declared.LoopDesign.{LoopDesign}
+use Rattle.instrument_fields.specs.declared.LoopDesign.{LoopDesign}
 use Rattle.instrument.specs.declared.Instrument.{Instrument}
 use Rattle.counting.specs.Below.{sumBelow}
 use Rattle.instrument.specs.Valid.{stringAt}
@@ -17,5 +17,5 @@ partCells i = sumBelow (i .«string_count») (λ j. stringCells (stringAt (i .st
 unfoldable pub countedCells : LoopDesign → ℕ
 countedCells s = cond (leb (s .n) 2000 && leb (s .«ap_count») 66) (stringCells s) 0
 
-unfoldable pub cellsOf : Instrument → ℕ
-cellsOf i = cond (leb (i .«string_count») 32) (sumBelow (i .«string_count») (λ j. countedCells (stringAt (i .strings) j))) 0
+unfoldable pub countedPart : Instrument → ℕ
+countedPart i = cond (leb (i .«string_count») 32) (sumBelow (i .«string_count») (λ j. countedCells (stringAt (i .strings) j))) 0

@@ -4,14 +4,14 @@ use mathlib.Core.Bool.{true}
 use Prim.Native.Nat.{_*_, _≤_}
 use native.Mathlib.Omega.{arith}
 use borrow.Author.Tests.{leb-true, le-leb}
-use Rattle.design.specs.declared.LoopDesign.{LoopDesign}
+use Rattle.instrument_fields.specs.declared.LoopDesign.{LoopDesign}
 use Rattle.counting.specs.Every.{holds}
-use Rattle.design.specs.Ranges.{stringInRange}
+use Rattle.instrument_fields.specs.Ranges.{stringInRange}
 use Rattle.instrument.specs.declared.Instrument.{Instrument}
 use Rattle.counting.specs.Laws.{sum-bound, sum-cong}
 use Rattle.instrument.specs.Valid.{stringAt, valid}
 use Rattle.instrument.specs.ValidLaws.{valid-counts, string-ranges, some-string}
-use Rattle.instrument.specs.Work.{stringCells, partCells, countedCells, cellsOf}
+use Rattle.instrument.specs.Work.{stringCells, partCells, countedCells, countedPart}
 
 module _ (s : LoopDesign) (h : stringInRange s ≡ true) where
   short : s .n ≤ 2000
@@ -43,8 +43,8 @@ module _ (i : Instrument) (h : valid i ≡ true) where
   pub work-bound : 5 * partCells i ≤ 661920
   work-bound = let b = part-bound in omega arith
 
-  pub cells-are : cellsOf i ≡ partCells i
-  unfolding cellsOf partCells
+  pub cells-are : countedPart i ≡ partCells i
+  unfolding countedPart partCells
   cells-are =
       rw (le-leb (i .«string_count») 32 (valid-counts i h .fewStrings))
       (sum-cong (i .«string_count») (λ j. countedCells (stringAt (i .strings) j)) (λ j. stringCells (stringAt (i .strings) j)) (λ j l. cells-counted (stringAt (i .strings) j) (string-ranges i h j l)))

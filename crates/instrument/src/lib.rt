@@ -1,18 +1,18 @@
 // Document 01, "Instrument file" and refusals 1 to 6: reading a file. Refusal 7 on an instrument: the test of a handed-in record. "The session": S and W of a record.
-use design::Common;
-use design::KeyDesign;
-use design::LoopDesign;
-use design::common_in_range;
-use design::is_no_key;
-use design::is_no_string;
-use design::key_in_range;
-use design::no_common;
-use design::no_key;
-use design::no_string;
-use design::read_common;
-use design::read_key;
-use design::read_string;
-use design::string_in_range;
+use instrument_fields::Common;
+use instrument_fields::KeyDesign;
+use instrument_fields::LoopDesign;
+use instrument_fields::common_in_range;
+use instrument_fields::is_no_key;
+use instrument_fields::is_no_string;
+use instrument_fields::key_in_range;
+use instrument_fields::no_common;
+use instrument_fields::no_key;
+use instrument_fields::no_string;
+use instrument_fields::read_common;
+use instrument_fields::read_key;
+use instrument_fields::read_string;
+use instrument_fields::string_in_range;
 use little_endian::byte_at;
 use little_endian::part;
 use little_endian::u32_at;
@@ -22,12 +22,12 @@ ghost use Prim.Native.Nat.{_+_, _*_, _-_, _≤_, _<_};
 ghost use lib.Dec.{eqb};
 ghost use lib.Seq.{sets};
 ghost use Rattle.little_endian.specs.Numbers.{byteAt, u32At};
-ghost use Rattle.design.specs.Ranges.{stringInRange};
-ghost use Rattle.design.specs.Unused.{noKey, noString};
+ghost use Rattle.instrument_fields.specs.Ranges.{stringInRange};
+ghost use Rattle.instrument_fields.specs.Unused.{noKey, noString};
 ghost use Rattle.counting.specs.Below.{allBelow, tabulate, pad};
-ghost use Rattle.instrument.specs.File.{offsetOf, lengthOf, section, keySection, headed, linked, chained, measuredKey, measured, stringIn, fieldedKey, fielded, keysIn, stringsIn, instrumentOf, refused, accepted, readOf};
+ghost use Rattle.instrument.specs.File.{offsetOf, lengthOf, section, keySection, headed, linked, chained, measuredKey, measured, loopIn, fieldedKey, fielded, keysIn, stringsIn, instrumentOf, refused, accepted, readOf};
 ghost use Rattle.instrument.specs.Valid.{keyAt, stringAt, keysInRange, stringSum, newKey, keysApart, keysUnused, stringsInRange, stringsUnused, counted, keysValid, stringsValid, valid};
-ghost use Rattle.instrument.specs.Work.{countedCells, cellsOf};
+ghost use Rattle.instrument.specs.Work.{countedCells, countedPart};
 
 // The keys in the file's order, and their strings, key after key: key k's stand after those of the keys before it. Places past the counts hold zeros.
 pub struct Instrument {
@@ -163,14 +163,14 @@ fn is_measured(f: &[u8], n: usize) -> bool
 
 fn string_in(b: &[u8], j: usize) -> LoopDesign
     requires { ⌜ j < 256 ⌝ }
-    ensures { λ r. ⌜ r ≡ stringIn (now (b .entry)) j ⌝ }
+    ensures { λ r. ⌜ r ≡ loopIn (now (b .entry)) j ⌝ }
 {
     read_string(part(b, 36 + 44 * j, 44))
 }
 
 fn strings_fielded(b: &[u8], s: usize) -> bool
     requires { ⌜ s < 256 ⌝ }
-    ensures { λ r. ⌜ r ≡ allBelow s (λ j. stringInRange (stringIn (now (b .entry)) j)) ⌝ }
+    ensures { λ r. ⌜ r ≡ allBelow s (λ j. stringInRange (loopIn (now (b .entry)) j)) ⌝ }
 {
     let mut i = 0usize;
     while i < s {
@@ -229,7 +229,7 @@ fn keys_of(f: &[u8], n: usize) -> [KeyDesign; 16]
 // The s strings of a key's section, stored from m on.
 fn put_strings(b: &[u8], s: usize, m: usize, old: [LoopDesign; 32]) -> [LoopDesign; 32]
     requires { ⌜ (s < 256) × (m + s ≤ 32) ⌝ }
-    ensures { λ r. ⌜ r ≡ sets old m (tabulate s (stringIn (now (b .entry)))) ⌝ }
+    ensures { λ r. ⌜ r ≡ sets old m (tabulate s (loopIn (now (b .entry)))) ⌝ }
 {
     let mut out = old;
     let mut j = 0usize;
@@ -506,7 +506,7 @@ fn string_cells(s: LoopDesign) -> usize
 
 // W, the cells of one part of work memory; 0 for a record of more than 32 strings.
 pub fn part_cells(i: Instrument) -> usize
-    ensures { λ r. ⌜ (r ≡ cellsOf i) × (r ≤ 132384) ⌝ }
+    ensures { λ r. ⌜ (r ≡ countedPart i) × (r ≤ 132384) ⌝ }
 {
     let strings = i.strings;
     let s = i.string_count;
@@ -525,7 +525,7 @@ pub fn part_cells(i: Instrument) -> usize
 
 // The cells that work memory must have: five parts.
 pub fn work_cells(i: Instrument) -> usize
-    ensures { λ r. ⌜ (r ≡ 5 * cellsOf i) × (r ≤ 661920) ⌝ }
+    ensures { λ r. ⌜ (r ≡ 5 * countedPart i) × (r ≤ 661920) ⌝ }
 {
     5 * part_cells(i)
 }

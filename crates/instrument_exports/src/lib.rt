@@ -1,15 +1,15 @@
 // The reader and refusal 7's test for a program in Rust or C: numbers and lent arrays across. A record lies flat in two arrays: whole numbers (key and string count, exponent, three
 // a key, two a string, W, 5W) and floats (nine common ones, four a key, five a string), unused places too.
-use design::Common;
-use design::Damper;
-use design::KeyDesign;
-use design::LoopDesign;
-use encoding::is_given;
-use encoding::read_file;
 use hammer::Hammer;
 use instrument::Instrument;
 use instrument::part_cells;
 use instrument::work_cells;
+use instrument_encoding::is_given;
+use instrument_encoding::read_file;
+use instrument_fields::Common;
+use instrument_fields::Damper;
+use instrument_fields::KeyDesign;
+use instrument_fields::LoopDesign;
 ghost use Prim.Native.Nat.{_<_};
 
 fn wide(x: u8) -> u64 {

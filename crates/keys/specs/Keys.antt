@@ -10,8 +10,8 @@ use Rattle.string.specs.declared.StringDesign.{StringDesign}
 use Rattle.keys.specs.declared.KeyConstants.{KeyConstants}
 
 -- the keys of a table, four numbers a key
-unfoldable pub keyAt : List Float → ℕ → KeyConstants
-keyAt table k = record {
+unfoldable pub constantsAt : List Float → ℕ → KeyConstants
+constantsAt table k = record {
   weight = getD table (k * 4) nan;
   «r_max» = getD table (k * 4 + 1) nan;
   step = getD table (k * 4 + 2) nan;
@@ -19,7 +19,7 @@ keyAt table k = record {
 }
 
 abbrev pub keysOf : List Float → ℕ → List KeyConstants
-keysOf table n = listFrom (keyAt table) 0 n
+keysOf table n = listFrom (constantsAt table) 0 n
 
 -- a damper goes towards r_max where it is to be down, towards +0 else, by a step at most
 unfoldable pub dampedOf : KeyConstants → Bool → Float → Float

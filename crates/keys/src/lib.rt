@@ -1,14 +1,14 @@
-// The keys: their dampers' moves, and the speeds at the bridge that their strings' sums give.
+// The keys: their dampers' moves, and the speeds at the bridge that their tableStrings' sums give.
 use float::clamp;
 ghost use mathlib.Core.Path.{_≡_};
 ghost use Prim.Native.Nat.{_≤_, _<_};
 ghost use mathlib.Core.Bool.{false};
 ghost use lib.ListN.{length, getD};
-ghost use Rattle.string.specs.Table.{strings};
+ghost use Rattle.string.specs.Table.{tableStrings};
 ghost use Rattle.strings.specs.Strings.{AllFit};
-ghost use Rattle.keys.specs.Keys.{keyAt, keysOf, dampedOf, dampers, sumsFrom, weightedTotal, speedOf, speeds};
+ghost use Rattle.keys.specs.Keys.{constantsAt, keysOf, dampedOf, dampers, sumsFrom, weightedTotal, speedOf, speeds};
 
-// A key's numbers: its weight, the damper's full resistance and its step a sample, and 1 + yz n for its n strings.
+// A key's numbers: its weight, the damper's full resistance and its step a sample, and 1 + yz n for its n tableStrings.
 pub struct KeyConstants {
     pub weight: f64,
     pub r_max: f64,
@@ -19,7 +19,7 @@ pub struct KeyConstants {
 // Key k of the table, four numbers a key.
 pub fn key_at(table: &[f64; 64], k: usize) -> KeyConstants
     requires { ⌜ k < 16 ⌝ }
-    ensures { λ r. ⌜ r ≡ keyAt (now (table .entry)) k ⌝ }
+    ensures { λ r. ⌜ r ≡ constantsAt (now (table .entry)) k ⌝ }
 {
     let j = k * 4;
     KeyConstants {
@@ -61,7 +61,7 @@ pub fn sum_keys(
 )
     requires { ⌜ AllFit (now lengths) (now coefficients) n ⌝ }
     requires { ⌜ n ≤ length (now «v_in») ⌝ }
-    ensures { λ _. ⌜ now (sums .exit) ≡ sumsFrom (strings (now (lengths .entry)) (now (coefficients .entry)) n) (now («v_in» .entry)) (now (sums .entry)) ⌝ }
+    ensures { λ _. ⌜ now (sums .exit) ≡ sumsFrom (tableStrings (now (lengths .entry)) (now (coefficients .entry)) n) (now («v_in» .entry)) (now (sums .entry)) ⌝ }
 {
     for i in 0..n {
         let d = string::design_at(lengths, coefficients, i);

@@ -1,6 +1,6 @@
 -- Laws of the refusals and of the plain machine: what a passed test says; the machine stays sound; its refusals are 9 to 16; a go replays no more than it must. Assumes nothing.
 use mathlib.Core.Path.{_≡_, refl, sym, _∙_, ap}
-use mathlib.Core.Bool.{Bool, true, false, not, _&&_}
+use mathlib.Core.Bool.{Bool, true, false, cond, not, _&&_}
 use mathlib.Core.Logic.{_⊎_, inl, inr, ⊎-elim}
 use mathlib.Core.List.{List, [], _∷_}
 use Prim.Native.Nat.{ℕ, zero, suc, _+_, _-_, _≤_, _<_}
@@ -11,7 +11,7 @@ use lib.ListN.{length, getD}
 use Rattle.instrument.specs.declared.Instrument.{Instrument}
 use Rattle.score.specs.declared.TimedEvent.{TimedEvent}
 use Rattle.score.specs.Score.{noEvent}
-use Rattle.positions.specs.Positions.{end, pick, count, isIn, others, above, upTo, greatest, distinct}
+use Rattle.positions.specs.Positions.{end, count, isIn, others, above, upTo, greatest, distinct}
 use Rattle.positions.specs.Laws.{and-both, true-or-false, count-others, in-front, in-cons, in-cases, in-none, in-upTo, greatest-bound, greatest-upTo, distinct-upTo}
 use Rattle.score_edits.specs.Edits.{soundVelocity, soundEvent, soundScore, placed, removed}
 use Rattle.score_edits.specs.Laws.{length-placed, length-removed, sound-placed, sound-removed, sound-position}
@@ -64,14 +64,14 @@ remove-passed events index e = leb-false events index (test-passed _ 13 e)
 
 -- ---- the machine stays sound: what keeps refusal 7 away
 
-pub record Sound (p : Machine) : Type 0 where
+pub record SoundMachine (p : Machine) : Type 0 where
   pub inside : p .t ≤ end
   pub score : soundScore (p .score) ≡ true
   pub few : length (p .score) ≤ 64
   pub below : (x : ℕ) → isIn x (p .cues) ≡ true → x ≤ end
   pub apart : distinct (p .cues) ≡ true
 
-pub sound-opened : Sound opened
+pub sound-opened : SoundMachine opened
 unfolding soundScore distinct
 sound-opened =
     record { inside = omega arith; score = refl; few = omega arith; below = λ x e. true-or-false (isIn x []) e (in-none x); apart = refl }
@@ -79,7 +79,7 @@ sound-opened =
 pub settled-low : (t : ℕ) (cues : List ℕ) (q : ℕ) → settled t cues q ≤ q
 settled-low t cues q = go (ltb q t) refl
   where
-    go : (b : Bool) → ltb q t ≡ b → pick b (greatest (upTo q cues)) t ≤ q
+    go : (b : Bool) → ltb q t ≡ b → cond b (greatest (upTo q cues)) t ≤ q
     go true e = greatest-upTo q cues
     go false e = ltb-false q t e
 
@@ -88,12 +88,12 @@ unfolding upTo
 in-upTo-in q x [] e = e
 in-upTo-in q x (y ∷ ys) e = go (leb y q) e (in-upTo-in q x ys)
   where
-    go : (b : Bool) → isIn x (pick b (y ∷ upTo q ys) (upTo q ys)) ≡ true → (isIn x (upTo q ys) ≡ true → isIn x ys ≡ true) → isIn x (y ∷ ys) ≡ true
+    go : (b : Bool) → isIn x (cond b (y ∷ upTo q ys) (upTo q ys)) ≡ true → (isIn x (upTo q ys) ≡ true → isIn x ys ≡ true) → isIn x (y ∷ ys) ≡ true
     go true f ih = ⊎-elim (λ (h : x ≡ y). rw h (in-front y ys)) (λ (h : isIn x (upTo q ys) ≡ true). in-cons x y ys (ih h)) (in-cases x y (upTo q ys) f)
     go false f ih = in-cons x y ys (ih f)
 
-module _ (p : Machine) (s : Sound p) where
-  sound-edit : (score : List TimedEvent) (q : ℕ) → soundScore score ≡ true → length score ≤ 64 → q ≤ end → Sound (edit p score q .0)
+module _ (p : Machine) (s : SoundMachine p) where
+  sound-edit : (score : List TimedEvent) (q : ℕ) → soundScore score ≡ true → length score ≤ 64 → q ≤ end → SoundMachine (edit p score q .0)
   sound-edit score q sc few top =
       record {
         inside = omega (arith, settled-low (p .t) (p .cues) q);
@@ -103,7 +103,7 @@ module _ (p : Machine) (s : Sound p) where
         apart = distinct-upTo q (p .cues) (s .apart);
       }
 
-  sound-cue : (b : Bool) → isIn (p .t) (p .cues) ≡ b → Sound (record { score = p .score; t = p .t; cues = pick b (p .cues) (p .t ∷ p .cues) })
+  sound-cue : (b : Bool) → isIn (p .t) (p .cues) ≡ b → SoundMachine (record { score = p .score; t = p .t; cues = cond b (p .cues) (p .t ∷ p .cues) })
   unfolding distinct
   sound-cue true e = record { inside = s .inside; score = s .score; few = s .few; below = s .below; apart = s .apart }
   sound-cue false e =
@@ -115,11 +115,11 @@ module _ (p : Machine) (s : Sound p) where
         apart = rw e (s .apart);
       }
 
-  unless-sound : (n : ℕ) (done : Machine × Reply) → (n ≡ 0 → Sound (done .0)) → Sound (unless n p done .0)
+  unless-sound : (n : ℕ) (done : Machine × Reply) → (n ≡ 0 → SoundMachine (done .0)) → SoundMachine (unless n p done .0)
   unless-sound zero done h = h refl
   unless-sound (suc n) done h = s
 
-  sound-insert : (e : TimedEvent) → insertRefusal (length (p .score)) e ≡ 0 → Sound (edit p (placed (p .score) e) (e .position) .0)
+  sound-insert : (e : TimedEvent) → insertRefusal (length (p .score)) e ≡ 0 → SoundMachine (edit p (placed (p .score) e) (e .position) .0)
   unfolding soundEvent
   sound-insert e x =
       let a = insert-passed (length (p .score)) e x in
@@ -128,19 +128,19 @@ module _ (p : Machine) (s : Sound p) where
       (omega (arith, length-placed (p .score) e, a .1)) (a .0)
 
   sound-remove : (index : ℕ) → removeRefusal (length (p .score)) index ≡ 0
-      → Sound (edit p (removed (p .score) index) (getD (p .score) index noEvent .position) .0)
+      → SoundMachine (edit p (removed (p .score) index) (getD (p .score) index noEvent .position) .0)
   sound-remove index x =
       let a = remove-passed (length (p .score)) index x in
       sound-edit (removed (p .score) index) (getD (p .score) index noEvent .position) (sound-removed (p .score) index (s .score))
       (omega (arith, length-removed (p .score) index a, s .few)) (sound-position (p .score) index noEvent (s .score) a)
 
-  pub sound-does : (i : Instrument) (c : Call) → Sound (does i p c .0)
+  pub sound-does : (i : Instrument) (c : Call) → SoundMachine (does i p c .0)
   unfolding does
   sound-does i (Call.play scratch m trace) =
       unless-sound (playRefusal i (p .t) scratch m trace) _
       (λ e. record { inside = play-passed i (p .t) scratch m trace e .2; score = s .score; few = s .few; below = s .below; apart = s .apart })
   sound-does i Call.cue =
-      unless-sound (cueRefusal (p .t) (p .cues)) (record { score = p .score; t = p .t; cues = pick (isIn (p .t) (p .cues)) (p .cues) (p .t ∷ p .cues) }, Reply.cued)
+      unless-sound (cueRefusal (p .t) (p .cues)) (record { score = p .score; t = p .t; cues = cond (isIn (p .t) (p .cues)) (p .cues) (p .t ∷ p .cues) }, Reply.cued)
       (λ e. sound-cue (isIn (p .t) (p .cues)) refl)
   sound-does i (Call.go scratch q) =
       unless-sound (goRefusal i scratch q (startOf (p .t) (p .cues) q)) (record { score = p .score; t = q; cues = p .cues }, Reply.went (q - startOf (p .t) (p .cues) q))

@@ -1,5 +1,6 @@
 -- Document 01, "The session": the plain machine. It is fed the instrument, the calls' positions, events and indices, and the lengths of scratch, output and trace; nothing of it comes
 -- from the program's session or memory. Definitions only: assumes nothing.
+use mathlib.Core.Bool.{cond}
 use mathlib.Core.List.{List, [], _∷_}
 use Prim.Native.Nat.{ℕ, zero, suc, _+_, _-_}
 use lib.Dec.{ltb}
@@ -9,7 +10,7 @@ use Rattle.instrument.specs.declared.Instrument.{Instrument}
 use Rattle.score.specs.declared.TimedEvent.{TimedEvent}
 use Rattle.score.specs.Score.{noEvent}
 use Rattle.render.specs.Render.{renderSamples, renderForces}
-use Rattle.positions.specs.Positions.{pick, isIn, above, upTo, greatest}
+use Rattle.positions.specs.Positions.{isIn, above, upTo, greatest}
 use Rattle.score_edits.specs.Edits.{placed, removed}
 use Rattle.machine.specs.Refusals.{playRefusal, cueRefusal, goRefusal, insertRefusal, removeRefusal}
 
@@ -51,7 +52,7 @@ startOf t cues p = greatest (upTo p (t ∷ cues))
 
 -- "If t > q, t becomes the greatest kept cue ≤ q, else 0."
 abbrev pub settled : ℕ → List ℕ → ℕ → ℕ
-settled t cues q = pick (ltb q t) (greatest (upTo q cues)) t
+settled t cues q = cond (ltb q t) (greatest (upTo q cues)) t
 
 -- "Both edits drop cues above q. .. Each returns t and the number dropped."
 abbrev pub edit : Machine → List TimedEvent → ℕ → Machine × Reply
@@ -71,7 +72,7 @@ does i p (Call.play scratch m trace) =
       Reply.played (length (blockForces i (p .score) (p .t) m)) (blockSamples i (p .score) (p .t) m) (blockForces i (p .score) (p .t) m),
     )
 does i p Call.cue =
-    unless (cueRefusal (p .t) (p .cues)) p (record { score = p .score; t = p .t; cues = pick (isIn (p .t) (p .cues)) (p .cues) (p .t ∷ p .cues) }, Reply.cued)
+    unless (cueRefusal (p .t) (p .cues)) p (record { score = p .score; t = p .t; cues = cond (isIn (p .t) (p .cues)) (p .cues) (p .t ∷ p .cues) }, Reply.cued)
 does i p (Call.go scratch q) =
     unless (goRefusal i scratch q (startOf (p .t) (p .cues) q)) p
     (record { score = p .score; t = q; cues = p .cues }, Reply.went (q - startOf (p .t) (p .cues) q))

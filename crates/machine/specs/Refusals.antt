@@ -1,16 +1,16 @@
 -- Document 01, "Numbers a call may give": 9 to 16, each tested on what is handed in, and for each call those that concern it in their order. The plain machine and the calls'
 -- contracts share them. 0 is no refusal. Definitions only: assumes nothing.
-use mathlib.Core.Bool.{Bool, not}
+use mathlib.Core.Bool.{Bool, cond, not}
 use mathlib.Core.List.{List}
 use Prim.Native.Nat.{ℕ, zero, suc, _+_, _-_, _*_}
 use lib.Dec.{leb, ltb}
 use Rattle.instrument.specs.declared.Instrument.{Instrument}
 use Rattle.score.specs.declared.TimedEvent.{TimedEvent}
-use Rattle.positions.specs.Positions.{end, pick, others}
+use Rattle.positions.specs.Positions.{end, others}
 use Rattle.score_edits.specs.Edits.{soundVelocity}
 
 abbrev pub refuseIf : Bool → ℕ → ℕ
-refuseIf b n = pick b n 0
+refuseIf b n = cond b n 0
 
 -- the first of two tests that refuses
 abbrev pub orElse : ℕ → ℕ → ℕ

@@ -15,7 +15,7 @@ use Rattle.points.specs.declared.HammerState.the-variants.{Resting, Flying}
 use Rattle.sample.specs.declared.Motion.{Motion}
 use Rattle.score.specs.declared.Piano.{Piano}
 use Rattle.piano_words.specs.Items.{joined, itemsOf, sets-next}
-use Rattle.piano_words.specs.Piano.{bitOf, flagWord, flagOf, floatWord, floatOf, hammerWords, hammerOf, motionWords, motionOf, pianoWords, pianoOf}
+use Rattle.piano_words.specs.Piano.{bitOf, flagWord, flagOf, floatWord, floatOf, hammerWords, hammerFrom, motionWords, motionOf, pianoWords, pianoOf}
 use Rattle.piano_words.specs.Back.{flags-length, floats-length, hammer-length}
 
 -- ---- reading
@@ -32,17 +32,17 @@ in-run w at i x e =
 module _ (w : List ℕ) (at : ℕ) where
   module _ (flies key a b : ℕ) (y v : Float) (ef : flies ≡ getD w at 0) (ek : key ≡ getD w (at + 1) 0) (ea : a ≡ getD w (at + 2) 0) (ey : y ≡ ofBits binary64 a)
       (eb : b ≡ getD w (at + 3) 0) (ev : v ≡ ofBits binary64 b) where
-    hammer-read : cond (eqb flies 1) (Flying key y v) Resting ≡ hammerOf (drop at w)
-    unfolding hammerOf
+    hammer-read : cond (eqb flies 1) (Flying key y v) Resting ≡ hammerFrom (drop at w)
+    unfolding hammerFrom
     hammer-read = cc (first w at, getD-drop at w 1 0, getD-drop at w 2 0, getD-drop at w 3 0)
 
-    pub hammer-flies : flies ≡ 1 → Flying key y v ≡ hammerOf (drop at w)
+    pub hammer-flies : flies ≡ 1 → Flying key y v ≡ hammerFrom (drop at w)
     hammer-flies h = sym (ap (λ (t : Bool). cond t (Flying key y v) Resting) (eq-eqb flies 1 h)) ∙ hammer-read
 
-    pub hammer-rests : (flies ≡ 1 → ⊥) → Resting ≡ hammerOf (drop at w)
+    pub hammer-rests : (flies ≡ 1 → ⊥) → Resting ≡ hammerFrom (drop at w)
     hammer-rests h = sym (ap (λ (t : Bool). cond t (Flying key y v) Resting) (ne-eqb flies 1 h)) ∙ hammer-read
 
-  pub motion-read : (h : HammerState) (n b : ℕ) (x : Float) → h ≡ hammerOf (drop at w) → n ≡ getD w (at + 4) 0 → b ≡ getD w (at + 5) 0 → x ≡ ofBits binary64 b
+  pub motion-read : (h : HammerState) (n b : ℕ) (x : Float) → h ≡ hammerFrom (drop at w) → n ≡ getD w (at + 4) 0 → b ≡ getD w (at + 5) 0 → x ≡ ofBits binary64 b
       → record { hammer = h; «contact_samples» = n; «peak_force» = x } ≡ motionOf (drop at w)
   unfolding motionOf
   motion-read h n b x eh en eb ex =

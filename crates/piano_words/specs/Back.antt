@@ -15,7 +15,7 @@ use Rattle.points.specs.declared.HammerState.the-variants.{Resting, Flying}
 use Rattle.sample.specs.declared.Motion.{Motion}
 use Rattle.score.specs.declared.Piano.{Piano}
 use Rattle.piano_words.specs.Items.{joined, itemsOf, AllOf, joined-length, items-length, items-back, all-items}
-use Rattle.piano_words.specs.Piano.{bitOf, flagWord, flagOf, floatWord, floatOf, hammerWords, hammerOf, motionWords, motionOf, pianoWords, pianoOf}
+use Rattle.piano_words.specs.Piano.{bitOf, flagWord, flagOf, floatWord, floatOf, hammerWords, hammerFrom, motionWords, motionOf, pianoWords, pianoOf}
 
 abbrev pub Fit : Float → Type 0
 Fit x = T (fits binary64 x)
@@ -70,7 +70,7 @@ motion-length m = length-append (hammerWords (m .hammer)) _ ∙ ap (λ (n : ℕ)
 
 module _ (k : ℕ) (p : Float) (r : List ℕ) (fp : Fit p) where
   motion-from : (h : HammerState) → FitHammer h → motionOf ((hammerWords h ++ (k ∷ toBits binary64 p ∷ [])) ++ r) ≡ record { hammer = h; «contact_samples» = k; «peak_force» = p }
-  unfolding motionOf hammerOf hammerWords FitHammer
+  unfolding motionOf hammerFrom hammerWords FitHammer
   motion-from Resting f = rw (ofBits-toBits binary64 p fp)
   motion-from (Flying i y v) f = rw (ofBits-toBits binary64 p fp, ofBits-toBits binary64 y (f .0), ofBits-toBits binary64 v (f .1))
 
@@ -141,7 +141,7 @@ fit-hammer-of true k a b = (ofBits-fits binary64 a, ofBits-fits binary64 b)
 fit-hammer-of false k a b = tt
 
 pub fit-piano-of : (w : List ℕ) → FitPiano (pianoOf w)
-unfolding pianoOf motionOf hammerOf
+unfolding pianoOf motionOf hammerFrom
 fit-piano-of w =
     let m = drop 49 w in
     record {

@@ -31,16 +31,16 @@ unfoldable pub hammerWords : HammerState → List ℕ
 hammerWords Resting = 0 ∷ 0 ∷ 0 ∷ 0 ∷ []
 hammerWords (Flying k y v) = 1 ∷ k ∷ toBits binary64 y ∷ toBits binary64 v ∷ []
 
-unfoldable pub hammerOf : List ℕ → HammerState
-hammerOf w = cond (eqb (getD w 0 0) 1) (Flying (getD w 1 0) (ofBits binary64 (getD w 2 0)) (ofBits binary64 (getD w 3 0))) Resting
+unfoldable pub hammerFrom : List ℕ → HammerState
+hammerFrom w = cond (eqb (getD w 0 0) 1) (Flying (getD w 1 0) (ofBits binary64 (getD w 2 0)) (ofBits binary64 (getD w 3 0))) Resting
 
 unfoldable pub motionWords : Motion → List ℕ
 unfolding hammerWords
 motionWords m = hammerWords (m .hammer) ++ (m .«contact_samples» ∷ toBits binary64 (m .«peak_force») ∷ [])
 
 unfoldable pub motionOf : List ℕ → Motion
-unfolding hammerOf
-motionOf w = record { hammer = hammerOf w; «contact_samples» = getD w 4 0; «peak_force» = ofBits binary64 (getD w 5 0) }
+unfolding hammerFrom
+motionOf w = record { hammer = hammerFrom w; «contact_samples» = getD w 4 0; «peak_force» = ofBits binary64 (getD w 5 0) }
 
 unfoldable pub pianoWords : Piano → List ℕ
 pianoWords p =

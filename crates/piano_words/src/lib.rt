@@ -5,7 +5,7 @@ ghost use lib.Ieee.{binary64, toBits};
 ghost use lib.ListN.{length, getD, drop, set};
 ghost use lib.Seq.{sets};
 ghost use Rattle.piano_words.specs.Items.{joined, itemsOf};
-ghost use Rattle.piano_words.specs.Piano.{bitOf, flagWord, flagOf, floatWord, floatOf, hammerWords, hammerOf, motionWords, motionOf, pianoWords, pianoOf};
+ghost use Rattle.piano_words.specs.Piano.{bitOf, flagWord, flagOf, floatWord, floatOf, hammerWords, hammerFrom, motionWords, motionOf, pianoWords, pianoOf};
 use points::HammerState;
 use sample::Motion;
 use score::Piano;
@@ -107,7 +107,7 @@ fn put_hammer(words: &mut [u64], at: usize, hammer: HammerState)
 
 fn hammer_at(words: &[u64], at: usize) -> HammerState
     requires { ⌜ at + 4 ≤ length (now words) ⌝ }
-    ensures { λ r. ⌜ r ≡ hammerOf (drop at (now (words .entry))) ⌝ }
+    ensures { λ r. ⌜ r ≡ hammerFrom (drop at (now (words .entry))) ⌝ }
 {
     let flies = word_at(words, at);
     let key = word_at(words, at + 1);

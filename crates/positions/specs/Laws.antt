@@ -1,6 +1,6 @@
 -- Laws of sets of positions: what is asked of a set does not depend on the order of its list. Assumes nothing.
 use mathlib.Core.Path.{_≡_, refl, sym, _∙_, ap}
-use mathlib.Core.Bool.{Bool, true, false, not, _&&_}
+use mathlib.Core.Bool.{Bool, true, false, cond, not, _&&_}
 use mathlib.Core.Logic.{_⊎_, inl, inr, ⊎-elim}
 use mathlib.Core.List.{List, [], _∷_}
 use Prim.Native.Nat.{ℕ, zero, suc, _+_, _≤_, _<_, max}
@@ -8,7 +8,7 @@ use native.Mathlib.Omega.{arith}
 use lib.Dec.{eqb, leb, ltb}
 use borrow.Author.Tests.{lt-ltb, le-ltb, le-leb, lt-leb, eq-eqb, ne-eqb, ltb-true, ltb-false, leb-true, leb-false, eqb-true, eqb-false, not-true}
 use lib.ListN.{length}
-use Rattle.positions.specs.Positions.{pick, count, isIn, others, above, upTo, greatest, distinct, Same}
+use Rattle.positions.specs.Positions.{count, isIn, others, above, upTo, greatest, distinct, Same}
 
 -- ---- tests
 
@@ -26,26 +26,26 @@ true-or-false b e f = absurd (let z : _≡_ {A = ℕ} 0 1 = cc in omega arith)
 -- ---- counting
 
 -- one member more
-pub count-cons : (f : ℕ → Bool) (x : ℕ) (l : List ℕ) → count f (x ∷ l) ≡ pick (f x) (suc (count f l)) (count f l)
+pub count-cons : (f : ℕ → Bool) (x : ℕ) (l : List ℕ) → count f (x ∷ l) ≡ cond (f x) (suc (count f l)) (count f l)
 unfolding count
 count-cons f x l = refl
 
 -- a member that is there or not
-pub count-if : (f : ℕ → Bool) (b : Bool) (x : ℕ) (l : List ℕ) → count f (pick b (x ∷ l) l) ≡ count f (pick b (x ∷ []) []) + count f l
+pub count-if : (f : ℕ → Bool) (b : Bool) (x : ℕ) (l : List ℕ) → count f (cond b (x ∷ l) l) ≡ count f (cond b (x ∷ []) []) + count f l
 unfolding count
 count-if f true x l = go (f x)
   where
-    go : (c : Bool) → pick c (suc (count f l)) (count f l) ≡ pick c 1 0 + count f l
+    go : (c : Bool) → cond c (suc (count f l)) (count f l) ≡ cond c 1 0 + count f l
     go true = omega arith
     go false = omega arith
 count-if f false x l = omega arith
 
 -- two members in the other order
-pub count-swap : (f : ℕ → Bool) (b : Bool) (x y : ℕ) (k l : List ℕ) → count f k ≡ count f (y ∷ l) → count f (pick b (x ∷ k) k) ≡ count f (y ∷ pick b (x ∷ l) l)
+pub count-swap : (f : ℕ → Bool) (b : Bool) (x y : ℕ) (k l : List ℕ) → count f k ≡ count f (y ∷ l) → count f (cond b (x ∷ k) k) ≡ count f (y ∷ cond b (x ∷ l) l)
 unfolding count
 count-swap f true x y k l e = rw e (swapped (f x) (f y) (count f l))
   where
-    swapped : (b c : Bool) (n : ℕ) → pick b (suc (pick c (suc n) n)) (pick c (suc n) n) ≡ pick c (suc (pick b (suc n) n)) (pick b (suc n) n)
+    swapped : (b c : Bool) (n : ℕ) → cond b (suc (cond c (suc n) n)) (cond c (suc n) n) ≡ cond c (suc (cond b (suc n) n)) (cond b (suc n) n)
     swapped true true n = refl
     swapped true false n = refl
     swapped false true n = refl
@@ -59,7 +59,7 @@ count-others x [] = refl
 count-others x (y ∷ ys) = go (eqb x y) (count-others x ys)
   where
     go : (b : Bool) → count (eqb x) ys + others x ys ≡ length ys
-        → pick b (suc (count (eqb x) ys)) (count (eqb x) ys) + pick (not b) (suc (others x ys)) (others x ys) ≡ suc (length ys)
+        → cond b (suc (count (eqb x) ys)) (count (eqb x) ys) + cond (not b) (suc (others x ys)) (others x ys) ≡ suc (length ys)
     go true e = omega arith
     go false e = omega arith
 
@@ -68,7 +68,7 @@ unfolding count
 count-le f [] = omega arith
 count-le f (x ∷ xs) = go (f x) (count-le f xs)
   where
-    go : (b : Bool) → count f xs ≤ length xs → pick b (suc (count f xs)) (count f xs) ≤ suc (length xs)
+    go : (b : Bool) → count f xs ≤ length xs → cond b (suc (count f xs)) (count f xs) ≤ suc (length xs)
     go true h = omega arith
     go false h = omega arith
 
@@ -80,7 +80,7 @@ in-front x l = rw (count-cons (eqb x) x l, eq-eqb x x refl) (lt-ltb 0 (suc (coun
 pub in-cons : (y x : ℕ) (l : List ℕ) → isIn y l ≡ true → isIn y (x ∷ l) ≡ true
 in-cons y x l e = rw (count-cons (eqb y) x l) (go (eqb y x))
   where
-    go : (b : Bool) → ltb 0 (pick b (suc (count (eqb y) l)) (count (eqb y) l)) ≡ true
+    go : (b : Bool) → ltb 0 (cond b (suc (count (eqb y) l)) (count (eqb y) l)) ≡ true
     go true = lt-ltb 0 (suc (count (eqb y) l)) (omega arith)
     go false = e
 
@@ -103,19 +103,19 @@ in-same y a b h = ap (λ n. ltb 0 n) (h (eqb y))
 pub same-cons : (x : ℕ) (a b : List ℕ) → Same a b → Same (x ∷ a) (x ∷ b)
 same-cons x a b h f = rw (count-cons f x a, count-cons f x b, h f)
 
-if-count : (f : ℕ → Bool) (b : Bool) (x : ℕ) (l : List ℕ) → count f (pick b (x ∷ l) l) ≡ pick b (pick (f x) (suc (count f l)) (count f l)) (count f l)
+if-count : (f : ℕ → Bool) (b : Bool) (x : ℕ) (l : List ℕ) → count f (cond b (x ∷ l) l) ≡ cond b (cond (f x) (suc (count f l)) (count f l)) (count f l)
 unfolding count
 if-count f true x l = refl
 if-count f false x l = refl
 
-pick-and : (b c : Bool) (n : ℕ) → pick b (pick c (suc n) n) n ≡ pick (b && c) (suc n) n
-pick-and true c n = refl
-pick-and false c n = refl
+cond-and : (b c : Bool) (n : ℕ) → cond b (cond c (suc n) n) n ≡ cond (b && c) (suc n) n
+cond-and true c n = refl
+cond-and false c n = refl
 
 count-upTo : (f : ℕ → Bool) (q : ℕ) (l : List ℕ) → count f (upTo q l) ≡ count (λ x. leb x q && f x) l
 unfolding count upTo
 count-upTo f q [] = refl
-count-upTo f q (x ∷ xs) = if-count f (leb x q) x (upTo q xs) ∙ rw (count-upTo f q xs) (pick-and (leb x q) (f x) (count (λ x. leb x q && f x) xs))
+count-upTo f q (x ∷ xs) = if-count f (leb x q) x (upTo q xs) ∙ rw (count-upTo f q xs) (cond-and (leb x q) (f x) (count (λ x. leb x q && f x) xs))
 
 pub same-upTo : (q : ℕ) (a b : List ℕ) → Same a b → Same (upTo q a) (upTo q b)
 same-upTo q a b h f = count-upTo f q a ∙ h (λ x. leb x q && f x) ∙ sym (count-upTo f q b)
@@ -160,7 +160,7 @@ unfolding greatest upTo
 greatest-upTo q [] = omega arith
 greatest-upTo q (x ∷ xs) = go (leb x q) refl (greatest-upTo q xs)
   where
-    go : (b : Bool) → leb x q ≡ b → greatest (upTo q xs) ≤ q → greatest (pick b (x ∷ upTo q xs) (upTo q xs)) ≤ q
+    go : (b : Bool) → leb x q ≡ b → greatest (upTo q xs) ≤ q → greatest (cond b (x ∷ upTo q xs) (upTo q xs)) ≤ q
     go true e h = omega (arith, leb-true x q e)
     go false e h = h
 
@@ -191,7 +191,7 @@ distinct-few (y ∷ ys) e x = go (eqb x y) refl (distinct-few ys (and-true (not 
     rest : (not (isIn y ys) ≡ true) × (distinct ys ≡ true)
     rest = and-true (not (isIn y ys)) (distinct ys) e
 
-    go : (b : Bool) → eqb x y ≡ b → count (eqb x) ys ≤ 1 → pick b (suc (count (eqb x) ys)) (count (eqb x) ys) ≤ 1
+    go : (b : Bool) → eqb x y ≡ b → count (eqb x) ys ≤ 1 → cond b (suc (count (eqb x) ys)) (count (eqb x) ys) ≤ 1
     go true f h =
         let n : ltb 0 (count (eqb y) ys) ≡ false = not-true (ltb 0 (count (eqb y) ys)) (rest .0) in
         let m : count (eqb x) ys ≡ count (eqb y) ys = ap (λ z. count (eqb z) ys) (eqb-true x y f) in
@@ -205,11 +205,11 @@ few-distinct (y ∷ ys) h =
     let here : count (eqb y) ys ≤ 0 = go (eqb y y) (eq-eqb y y refl) (h y) in
     rw (le-ltb 0 (count (eqb y) ys) here) (few-distinct ys (λ x. below (eqb x y) x (h x)))
   where
-    go : (b : Bool) → b ≡ true → pick b (suc (count (eqb y) ys)) (count (eqb y) ys) ≤ 1 → count (eqb y) ys ≤ 0
+    go : (b : Bool) → b ≡ true → cond b (suc (count (eqb y) ys)) (count (eqb y) ys) ≤ 1 → count (eqb y) ys ≤ 0
     go true e k = omega arith
     go false e k = true-or-false false e refl
 
-    below : (b : Bool) (x : ℕ) → pick b (suc (count (eqb x) ys)) (count (eqb x) ys) ≤ 1 → count (eqb x) ys ≤ 1
+    below : (b : Bool) (x : ℕ) → cond b (suc (count (eqb x) ys)) (count (eqb x) ys) ≤ 1 → count (eqb x) ys ≤ 1
     below true x k = omega arith
     below false x k = k
 
@@ -221,7 +221,7 @@ unfolding count upTo
 fewer-upTo f q [] = omega arith
 fewer-upTo f q (x ∷ xs) = go (leb x q) (f x) refl (fewer-upTo f q xs)
   where
-    go : (b c : Bool) → f x ≡ c → count f (upTo q xs) ≤ count f xs → count f (pick b (x ∷ upTo q xs) (upTo q xs)) ≤ pick c (suc (count f xs)) (count f xs)
+    go : (b c : Bool) → f x ≡ c → count f (upTo q xs) ≤ count f xs → count f (cond b (x ∷ upTo q xs) (upTo q xs)) ≤ cond c (suc (count f xs)) (count f xs)
     go true true e h = rw e (omega arith)
     go true false e h = rw e h
     go false true e h = omega arith

@@ -1,6 +1,6 @@
 -- Document 01, "The session": "a set of at most four cue positions"; "the greatest of 0, the kept cues ≤ p, and t if t ≤ p". Definitions only: assumes nothing.
 use mathlib.Core.Path.{_≡_}
-use mathlib.Core.Bool.{Bool, true, false, not, _&&_}
+use mathlib.Core.Bool.{Bool, true, false, cond, not, _&&_}
 use mathlib.Core.List.{List, [], _∷_}
 use Prim.Native.Nat.{ℕ, suc, max}
 use lib.Dec.{eqb, leb, ltb}
@@ -9,14 +9,10 @@ use lib.Dec.{eqb, leb, ltb}
 abbrev pub end : ℕ
 end = 2000000000
 
-abbrev pub pick {ℓ} : {A : Type ℓ} → Bool → A → A → A
-pick true a b = a
-pick false a b = b
-
 -- A set of positions is a list of which it is only asked how many members pass a test.
 unfoldable pub count : (ℕ → Bool) → List ℕ → ℕ
 count f [] = 0
-count f (x ∷ xs) = pick (f x) (suc (count f xs)) (count f xs)
+count f (x ∷ xs) = cond (f x) (suc (count f xs)) (count f xs)
 
 abbrev pub isIn : ℕ → List ℕ → Bool
 isIn x l = ltb 0 (count (eqb x) l)
@@ -31,7 +27,7 @@ above q l = count (ltb q) l
 -- the members not above q
 unfoldable pub upTo : ℕ → List ℕ → List ℕ
 upTo q [] = []
-upTo q (x ∷ xs) = pick (leb x q) (x ∷ upTo q xs) (upTo q xs)
+upTo q (x ∷ xs) = cond (leb x q) (x ∷ upTo q xs) (upTo q xs)
 
 -- the greatest of 0 and the members
 unfoldable pub greatest : List ℕ → ℕ

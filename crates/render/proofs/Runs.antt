@@ -17,12 +17,12 @@ use Rattle.score.specs.Events.{State, Playable, isDown, applyAll}
 use Rattle.score.specs.Score.{eventsAt}
 use Rattle.cells.specs.Numbered.{list-length}
 use Rattle.instrument.specs.declared.Instrument.{Instrument}
-use Rattle.string.specs.Table.{strings}
-use Rattle.model.specs.Model.{setupOf, stringsOf, modelOf, keyIn}
-use Rattle.model.specs.Laws.{filled-fit, filled-strings, filled-model}
+use Rattle.string.specs.Table.{tableStrings}
+use Rattle.sample_constants.specs.Model.{setupOf, stringsOf, modelOf, keyIn}
+use Rattle.sample_constants.specs.Laws.{filled-fit, filled-strings, filled-model}
 use Rattle.render.specs.Laws.{stepped-same}
 use Rattle.render.specs.Steps.{stateAfter, valuesOf, run-add, values-add, values-length, run-keeps, sets-append}
-use Rattle.render.specs.Render.{Went, Rendered, Loaded, Played, withMotion, stepped, played, stillNext, stillOut, stillForce, nextOf, soundOf, outOf, forceOf}
+use Rattle.render.specs.Render.{Went, Rendered, Loaded, Played, withMotion, stepped, played, stillNext, stillOut, stillForce, stateNext, sampleAt, samplesAt, pushedAt}
 
 module _ {next : ℕ → State → State} {out : ℕ → State → Float} {force : ℕ → State → List Float} where
   -- nothing done yet
@@ -127,24 +127,24 @@ module _ (i : Instrument) (score : List TimedEvent) (t : ℕ) (s e : State) (D :
   kept n k = run-keeps (stillNext (modelOf i) D) (λ (x : State). isDown i (x .piano) k) t n e (λ u x. refl)
 
   pub stretch-state : (n : ℕ) → ((u : ℕ) → t + 1 ≤ u → u < t + suc n → eventsAt score u ≡ [])
-      → stateAfter (nextOf i score) t (suc n) s ≡ stateAfter (stillNext (modelOf i) D) t (suc n) e
+      → stateAfter (stateNext i score) t (suc n) s ≡ stateAfter (stillNext (modelOf i) D) t (suc n) e
   unfolding stateAfter
   stretch-state zero h = rw (add-zero t) (ap (λ (x : Played). x .state) first)
   stretch-state (suc n) h =
       let y = stateAfter (stillNext (modelOf i) D) t (suc n) e in
-      ap (λ (x : State). nextOf i score (t + suc n) x) (stretch-state n (λ u a b. h u a (omega arith)))
+      ap (λ (x : State). stateNext i score (t + suc n) x) (stretch-state n (λ u a b. h u a (omega arith)))
       ∙ ap (λ (x : Played). x .state) (other (t + suc n) y (kept (suc n)) (h (t + suc n) (omega arith) (omega arith)))
 
   -- what is listed of each sample, for any part g of it
   pub stretch-values : (g : Played → List Float) (n : ℕ) → ((u : ℕ) → t + 1 ≤ u → u < t + suc n → eventsAt score u ≡ [])
-      → valuesOf (nextOf i score) (λ u x. g (played i u (eventsAt score u) x)) t (suc n) s ≡ valuesOf (stillNext (modelOf i) D) (λ u x. g (stepped (modelOf i) D u x)) t (suc n) e
+      → valuesOf (stateNext i score) (λ u x. g (played i u (eventsAt score u) x)) t (suc n) s ≡ valuesOf (stillNext (modelOf i) D) (λ u x. g (stepped (modelOf i) D u x)) t (suc n) e
   unfolding valuesOf stateAfter
   stretch-values g zero h = rw (add-zero t) (ap g first)
   stretch-values g (suc n) h =
       let y = stateAfter (stillNext (modelOf i) D) t (suc n) e in
       let vs = stretch-values g n (λ u a b. h u a (omega arith)) in
       let st = stretch-state n (λ u a b. h u a (omega arith)) in
-      ap (λ (l : List Float). l ++ g (played i (t + suc n) (eventsAt score (t + suc n)) (stateAfter (nextOf i score) t (suc n) s))) vs
+      ap (λ (l : List Float). l ++ g (played i (t + suc n) (eventsAt score (t + suc n)) (stateAfter (stateNext i score) t (suc n) s))) vs
       ∙ ap (λ (x : State). valuesOf (stillNext (modelOf i) D) (λ u x. g (stepped (modelOf i) D u x)) t (suc n) e ++ g (played i (t + suc n) (eventsAt score (t + suc n)) x)) st
       ∙ ap (λ (x : Played). valuesOf (stillNext (modelOf i) D) (λ u x. g (stepped (modelOf i) D u x)) t (suc n) e ++ g x)
       (other (t + suc n) y (kept (suc n)) (h (t + suc n) (omega arith) (omega arith)))
@@ -153,13 +153,13 @@ module _ (i : Instrument) (score : List TimedEvent) (t : ℕ) (s e : State) (D :
   pub stretch-went : {o₀ tr₀ : List Float} {d₀ k₀ : ℕ} {s' : State} {o tr : List Float} {d k : ℕ}
       → Went (stillNext (modelOf i) D) (stillOut (modelOf i) D) (stillForce (modelOf i) D) t e o₀ tr₀ d₀ k₀ s' o tr d k → d₀ < d
       → ((u : ℕ) → t + 1 ≤ u → u < t + (d - d₀) → eventsAt score u ≡ [])
-      → Went (nextOf i score) (soundOf i score) (forceOf i score) t s o₀ tr₀ d₀ k₀ s' o tr d k
+      → Went (stateNext i score) (sampleAt i score) (pushedAt i score) t s o₀ tr₀ d₀ k₀ s' o tr d k
   stretch-went {o₀} {tr₀} {d₀} {k₀} {s'} {o} {tr} {d} {k} w more h =
       let n : d - d₀ ≡ suc (d - d₀ - 1) = omega arith in
       let q = rw n at h in
-      let st : stateAfter (nextOf i score) t (d - d₀) s ≡ stateAfter (stillNext (modelOf i) D) t (d - d₀) e = rw n (stretch-state (d - d₀ - 1) q) in
-      let vs : valuesOf (nextOf i score) (outOf i score) t (d - d₀) s ≡ valuesOf (stillNext (modelOf i) D) (λ u x. stillOut (modelOf i) D u x ∷ []) t (d - d₀) e = rw n (stretch-values (λ x. x .out ∷ []) (d - d₀ - 1) q) in
-      let fs : valuesOf (nextOf i score) (forceOf i score) t (d - d₀) s ≡ valuesOf (stillNext (modelOf i) D) (stillForce (modelOf i) D) t (d - d₀) e = rw n (stretch-values (λ x. x .force) (d - d₀ - 1) q) in
+      let st : stateAfter (stateNext i score) t (d - d₀) s ≡ stateAfter (stillNext (modelOf i) D) t (d - d₀) e = rw n (stretch-state (d - d₀ - 1) q) in
+      let vs : valuesOf (stateNext i score) (samplesAt i score) t (d - d₀) s ≡ valuesOf (stillNext (modelOf i) D) (λ u x. stillOut (modelOf i) D u x ∷ []) t (d - d₀) e = rw n (stretch-values (λ x. x .out ∷ []) (d - d₀ - 1) q) in
+      let fs : valuesOf (stateNext i score) (pushedAt i score) t (d - d₀) s ≡ valuesOf (stillNext (modelOf i) D) (stillForce (modelOf i) D) t (d - d₀) e = rw n (stretch-values (λ x. x .force) (d - d₀ - 1) q) in
       record {
         from = w .from;
         state = w .state ∙ sym st;
@@ -179,7 +179,7 @@ module _ (i : Instrument) (setup : Setup) (table : List Float) (lengths : List �
   unfolding setupOf
   keys-many = ap (λ (x : Setup). x .keys) hs
 
-  pub loaded-strings : strings lengths coefficients (setup .strings) ≡ stringsOf i
+  pub loaded-strings : tableStrings lengths coefficients (setup .strings) ≡ stringsOf i
   loaded-strings = rw strings-many (filled-strings i lengths coefficients (l .renderable .keys) (l .filledStrings))
 
   pub loaded-model : modelAt setup table lengths coefficients ≡ modelOf i
@@ -202,7 +202,7 @@ module _ (i : Instrument) (setup : Setup) (table : List Float) (lengths : List �
 
 -- a run from the start of its buffers, m samples done, is the render's promise
 pub went-rendered : (i : Instrument) (score : List TimedEvent) (t m : ℕ) {s s' : State} {o tr o' tr' : List Float} {d k : ℕ}
-    → Went (nextOf i score) (soundOf i score) (forceOf i score) t s o tr 0 0 s' o' tr' d k → d ≡ m → Rendered i score t m s o tr s' o' tr' d k
+    → Went (stateNext i score) (sampleAt i score) (pushedAt i score) t s o tr 0 0 s' o' tr' d k → d ≡ m → Rendered i score t m s o tr s' o' tr' d k
 went-rendered i score t m {d = d} w e =
     let z : d - 0 ≡ m = omega arith in
     record { state = rw z at (w .state); outs = rw z at (w .outs); traced = rw z at (w .trace); counted = e; forced = rw z at (w .count) ∙ zero-add _ }

@@ -14,7 +14,7 @@ use Rattle.points.specs.declared.HammerState.{HammerState}
 use Rattle.points.specs.declared.HammerState.the-variants.{Resting, Flying}
 use Rattle.points.specs.declared.ForceSum.{ForceSum}
 use Rattle.sample.specs.Sample.{Model, moved, sampled}
-use Rattle.model.specs.Model.{stringsOf, modelOf}
+use Rattle.sample_constants.specs.Model.{stringsOf, modelOf}
 use Rattle.score.specs.declared.Event.{Event}
 use Rattle.score.specs.declared.Event.the-variants.{NoteOn, NoteOff, Pedal, HandDamp}
 use Rattle.score.specs.declared.TimedEvent.{TimedEvent}
@@ -28,8 +28,8 @@ abbrev pub OnKey : Instrument → HammerState → Type 0
 OnKey i Resting = Unit {0}
 OnKey i (Flying k y v) = k < i .«key_count»
 
-abbrev hammerOf : State → HammerState
-hammerOf s = s .piano .motion .hammer
+abbrev hammerIn : State → HammerState
+hammerIn s = s .piano .motion .hammer
 
 module _ (i : Instrument) where
   -- a sample leaves the hammer on its key, or at rest
@@ -45,17 +45,17 @@ module _ (i : Instrument) where
       by-test false true y v = tt
       by-test false false y v = o
 
-  stepped-on : (m : Model) (down : ℕ → Bool) (t : ℕ) (s : State) → OnKey i (hammerOf s) → OnKey i (hammerOf (stepped m down t s .state))
+  stepped-on : (m : Model) (down : ℕ → Bool) (t : ℕ) (s : State) → OnKey i (hammerIn s) → OnKey i (hammerIn (stepped m down t s .state))
   unfolding stepped sampled
-  stepped-on m down t s o = moved-on (m .constants) (hammerOf s) (s .piano .motion .«contact_samples») (s .piano .motion .«peak_force») _ o
+  stepped-on m down t s o = moved-on (m .constants) (hammerIn s) (s .piano .motion .«contact_samples») (s .piano .motion .«peak_force») _ o
 
   -- either of two states, by a test
-  either-on : (b : Bool) (x y : State) → (b ≡ true → OnKey i (hammerOf x)) → OnKey i (hammerOf y) → OnKey i (hammerOf (cond b x y))
+  either-on : (b : Bool) (x y : State) → (b ≡ true → OnKey i (hammerIn x)) → OnKey i (hammerIn y) → OnKey i (hammerIn (cond b x y))
   either-on true x y f o = f refl
   either-on false x y f o = o
 
   -- a strike puts it on the key it found; other events leave it
-  applied-on : (ds : List StringDesign) (e : Event) (s : State) → OnKey i (hammerOf s) → OnKey i (hammerOf (applied i ds e s))
+  applied-on : (ds : List StringDesign) (e : Event) (s : State) → OnKey i (hammerIn s) → OnKey i (hammerIn (applied i ds e s))
   unfolding applied struckKey heldTo handDamped pedalTo
   applied-on ds (NoteOn x v) s o =
       let k = keyIndex (i .keys) 0 (i .«key_count») x in
@@ -68,22 +68,22 @@ module _ (i : Instrument) where
       let k = keyIndex (i .keys) 0 (i .«key_count») x in
       either-on (ltb k (i .«key_count»)) (record { piano = handDamped k (s .piano); cells = s .cells }) s (λ h. o) o
 
-  all-on : (ds : List StringDesign) (es : List Event) (s : State) → OnKey i (hammerOf s) → OnKey i (hammerOf (applyAll i ds es s))
+  all-on : (ds : List StringDesign) (es : List Event) (s : State) → OnKey i (hammerIn s) → OnKey i (hammerIn (applyAll i ds es s))
   unfolding applyAll
   all-on ds [] s o = o
   all-on ds (e ∷ es) s o = all-on ds es (applied i ds e s) (applied-on ds e s o)
 
-  played-on : (t : ℕ) (es : List Event) (s : State) → OnKey i (hammerOf s) → OnKey i (hammerOf (played i t es s .state))
+  played-on : (t : ℕ) (es : List Event) (s : State) → OnKey i (hammerIn s) → OnKey i (hammerIn (played i t es s .state))
   unfolding played
   played-on t es s o =
       let acted = applyAll i (stringsOf i) es s in
       stepped-on (modelOf i) (isDown i (acted .piano)) t acted (all-on (stringsOf i) es s o)
 
-  run-on : (score : List TimedEvent) (t n : ℕ) (s : State) → OnKey i (hammerOf s) → OnKey i (hammerOf (run i score t n s))
+  run-on : (score : List TimedEvent) (t n : ℕ) (s : State) → OnKey i (hammerIn s) → OnKey i (hammerIn (run i score t n s))
   unfolding stateAfter
   run-on score t zero s o = o
   run-on score t (suc n) s o = played-on (t + n) (eventsAt score (t + n)) (run i score t n s) (run-on score t n s o)
 
-  pub render-hammer : (score : List TimedEvent) (p : ℕ) → OnKey i (hammerOf (renderState i score p))
+  pub render-hammer : (score : List TimedEvent) (p : ℕ) → OnKey i (hammerIn (renderState i score p))
   unfolding silence silentPiano
   render-hammer score p = run-on score 0 p (silence i) tt

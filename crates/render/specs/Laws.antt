@@ -23,14 +23,14 @@ use Rattle.strings.specs.Laws.{filtered-all-length, bridge-all-length}
 use Rattle.keys.specs.Keys.{dampers, bridgeSpeeds}
 use Rattle.keys.specs.Laws.{dampers-same}
 use Rattle.sample.specs.Sample.{Model, moved, pushedBy, forcesOf, sampled}
-use Rattle.model.specs.Model.{stringsOf, modelOf}
+use Rattle.sample_constants.specs.Model.{stringsOf, modelOf}
 use Rattle.score.specs.declared.Event.{Event}
 use Rattle.score.specs.declared.TimedEvent.{TimedEvent}
 use Rattle.score.specs.Events.{State, isDown, applyAll}
 use Rattle.score.specs.Score.{eventsAt}
 use Rattle.score.specs.Laws.{apply-all-count, apply-all-length}
 use Rattle.render.specs.Steps.{stateAfter, run-add, values-add, values-length, values-few, run-same, values-same}
-use Rattle.render.specs.Render.{stepped, played, silentPiano, silence, nextOf, outOf, forceOf, run, samples, forces, renderState, renderSamples, renderForces}
+use Rattle.render.specs.Render.{stepped, played, silentPiano, silence, stateNext, samplesAt, pushedAt, run, samples, forces, renderState, renderSamples, renderForces}
 
 -- ---- one sample
 
@@ -107,20 +107,20 @@ module _ (i : Instrument) (t : ℕ) (es : List Event) (s : State) where
 module _ (i : Instrument) (score : List TimedEvent) where
   -- a run of m + k samples is the run of m, then of k
   pub run-then : (t m k : ℕ) (s : State) → run i score t (m + k) s ≡ run i score (t + m) k (run i score t m s)
-  run-then t m k s = run-add (nextOf i score) t m k s
+  run-then t m k s = run-add (stateNext i score) t m k s
 
   pub samples-then : (t m k : ℕ) (s : State) → samples i score t (m + k) s ≡ samples i score t m s ++ samples i score (t + m) k (run i score t m s)
-  samples-then t m k s = values-add (nextOf i score) (outOf i score) t m k s
+  samples-then t m k s = values-add (stateNext i score) (samplesAt i score) t m k s
 
   pub forces-then : (t m k : ℕ) (s : State) → forces i score t (m + k) s ≡ forces i score t m s ++ forces i score (t + m) k (run i score t m s)
-  forces-then t m k s = values-add (nextOf i score) (forceOf i score) t m k s
+  forces-then t m k s = values-add (stateNext i score) (pushedAt i score) t m k s
 
   -- one sample each, and one force at most
   pub samples-length : (t n : ℕ) (s : State) → length (samples i score t n s) ≡ n
-  samples-length t n s = values-length (nextOf i score) (λ u x. played i u (eventsAt score u) x .out) t n s
+  samples-length t n s = values-length (stateNext i score) (λ u x. played i u (eventsAt score u) x .out) t n s
 
   pub forces-few : (t n : ℕ) (s : State) → length (forces i score t n s) ≤ n
-  forces-few t n s = values-few (nextOf i score) (forceOf i score) t n s (λ u x. played-force i u (eventsAt score u) x)
+  forces-few t n s = values-few (stateNext i score) (pushedAt i score) t n s (λ u x. played-force i u (eventsAt score u) x)
 
   -- contact_samples goes up by one a sample at most
   pub run-contact : (t n : ℕ) (s : State) → run i score t n s .piano .motion .«contact_samples» ≤ s .piano .motion .«contact_samples» + n
@@ -160,16 +160,16 @@ module _ (i : Instrument) (score : List TimedEvent) where
 -- scores with the same events at each position of a run give the same run
 module _ (i : Instrument) (a b : List TimedEvent) (t n : ℕ) (s : State) (h : (u : ℕ) → t ≤ u → u < t + n → eventsAt a u ≡ eventsAt b u) where
   pub run-local : run i a t n s ≡ run i b t n s
-  run-local = run-same (nextOf i a) (nextOf i b) t s n (λ u x p q. ap (λ (es : List Event). played i u es x .state) (h u p q))
+  run-local = run-same (stateNext i a) (stateNext i b) t s n (λ u x p q. ap (λ (es : List Event). played i u es x .state) (h u p q))
 
   pub samples-local : samples i a t n s ≡ samples i b t n s
   samples-local =
-      values-same (nextOf i a) (nextOf i b) t s (outOf i a) (outOf i b) n
+      values-same (stateNext i a) (stateNext i b) t s (samplesAt i a) (samplesAt i b) n
       (λ u x p q. (ap (λ (es : List Event). played i u es x .state) (h u p q), ap (λ (es : List Event). played i u es x .out ∷ []) (h u p q)))
 
   pub forces-local : forces i a t n s ≡ forces i b t n s
   forces-local =
-      values-same (nextOf i a) (nextOf i b) t s (forceOf i a) (forceOf i b) n
+      values-same (stateNext i a) (stateNext i b) t s (pushedAt i a) (pushedAt i b) n
       (λ u x p q. (ap (λ (es : List Event). played i u es x .state) (h u p q), ap (λ (es : List Event). played i u es x .force) (h u p q)))
 
 -- the state at p depends only on the events below p

@@ -12,7 +12,7 @@ use Rattle.points.specs.declared.HammerState.the-variants.{Resting}
 use Rattle.strings.specs.Strings.{cellsOf}
 use Rattle.sample.specs.declared.Motion.{Motion}
 use Rattle.sample.specs.Sample.{Model, sampled}
-use Rattle.model.specs.Model.{stringsOf, modelOf, KeysFilled, StringsFilled}
+use Rattle.sample_constants.specs.Model.{stringsOf, modelOf, KeysFilled, StringsFilled}
 use Rattle.score.specs.declared.Piano.{Piano}
 use Rattle.score.specs.declared.Event.{Event}
 use Rattle.score.specs.declared.TimedEvent.{TimedEvent}
@@ -57,27 +57,27 @@ unfoldable pub silence : Instrument → State
 silence i = record { piano = silentPiano; cells = replicate (cellsOf (stringsOf i)) +0 }
 
 -- a score's sample t: the state after it, its output, its force
-abbrev pub nextOf : Instrument → List TimedEvent → ℕ → State → State
-nextOf i score t s = played i t (eventsAt score t) s .state
+abbrev pub stateNext : Instrument → List TimedEvent → ℕ → State → State
+stateNext i score t s = played i t (eventsAt score t) s .state
 
-abbrev pub soundOf : Instrument → List TimedEvent → ℕ → State → Float
-soundOf i score t s = played i t (eventsAt score t) s .out
+abbrev pub sampleAt : Instrument → List TimedEvent → ℕ → State → Float
+sampleAt i score t s = played i t (eventsAt score t) s .out
 
-abbrev pub outOf : Instrument → List TimedEvent → ℕ → State → List Float
-outOf i score t s = soundOf i score t s ∷ []
+abbrev pub samplesAt : Instrument → List TimedEvent → ℕ → State → List Float
+samplesAt i score t s = sampleAt i score t s ∷ []
 
-abbrev pub forceOf : Instrument → List TimedEvent → ℕ → State → List Float
-forceOf i score t s = played i t (eventsAt score t) s .force
+abbrev pub pushedAt : Instrument → List TimedEvent → ℕ → State → List Float
+pushedAt i score t s = played i t (eventsAt score t) s .force
 
 -- n samples of a score from t on: the state after them, the samples, the forces
 abbrev pub run : Instrument → List TimedEvent → ℕ → ℕ → State → State
-run i score t n s = stateAfter (nextOf i score) t n s
+run i score t n s = stateAfter (stateNext i score) t n s
 
 abbrev pub samples : Instrument → List TimedEvent → ℕ → ℕ → State → List Float
-samples i score t n s = valuesOf (nextOf i score) (outOf i score) t n s
+samples i score t n s = valuesOf (stateNext i score) (samplesAt i score) t n s
 
 abbrev pub forces : Instrument → List TimedEvent → ℕ → ℕ → State → List Float
-forces i score t n s = valuesOf (nextOf i score) (forceOf i score) t n s
+forces i score t n s = valuesOf (stateNext i score) (pushedAt i score) t n s
 
 -- the render of a score from silence: its state at p, and all its samples and forces before p
 abbrev pub renderState : Instrument → List TimedEvent → ℕ → State
@@ -109,7 +109,7 @@ abbrev pub stillForce : Model → (ℕ → Bool) → ℕ → State → List Floa
 stillForce m down t s = stepped m down t s .force
 
 -- a run whose counts are within its position, with samples left up to `stop`
-pub record Due (r : Run) (t stop : ℕ) : Type 0 where
+pub record InRange (r : Run) (t stop : ℕ) : Type 0 where
   pub below : r .done ≤ stop
   pub end : t + stop < 2 ^ 64
   pub contact : r .piano .motion .«contact_samples» ≤ t + r .done

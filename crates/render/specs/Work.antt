@@ -13,7 +13,7 @@ use Rattle.cells.specs.Parts.{total}
 use Rattle.cells.specs.Numbered.{listFrom}
 use Rattle.cuts.specs.Laws.{cuts-sum}
 use Rattle.counting.specs.Every.{holds}
-use Rattle.design.specs.Ranges.{stringInRange}
+use Rattle.instrument_fields.specs.Ranges.{stringInRange}
 use Rattle.instrument.specs.declared.Instrument.{Instrument}
 use Rattle.counting.specs.Below.{sumBelow}
 use Rattle.instrument.specs.Valid.{valid, keyAt, stringAt}
@@ -22,7 +22,7 @@ use Rattle.instrument.specs.Work.{stringCells, partCells}
 use Rattle.string.specs.declared.StringDesign.{StringDesign}
 use Rattle.string.specs.String.{sizeOf}
 use Rattle.strings.specs.Strings.{cellsOf}
-use Rattle.model.specs.Model.{ownerIn, stringOf, stringIn, stringsOf}
+use Rattle.sample_constants.specs.Model.{ownerIn, stringOf, stringIn, stringsOf}
 use Rattle.render.specs.Render.{Renderable}
 
 -- one string more

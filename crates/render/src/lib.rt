@@ -15,7 +15,7 @@ ghost use lib.Seq.{sets};
 ghost use Rattle.sample.specs.Sample.{Ready, modelAt, forcesOf};
 ghost use Rattle.score.specs.Events.{State};
 ghost use Rattle.score.specs.Score.{eventsOf};
-ghost use Rattle.render.specs.Render.{Went, Due, Loaded, Renderable, Rendered, silentPiano, stillNext, stillOut, stillForce, nextOf, soundOf, forceOf};
+ghost use Rattle.render.specs.Render.{Went, InRange, Loaded, Renderable, Rendered, silentPiano, stillNext, stillOut, stillForce, stateNext, sampleAt, pushedAt};
 
 // A run in progress: the piano, how many samples are done, and how many forces were pushed.
 pub struct Run {
@@ -62,13 +62,13 @@ fn play_on(
     stop: u64,
 ) -> Run
     requires { ⌜ Ready setup (now lengths) (now coefficients) (now part) (now scratch) ⌝ }
-    requires { ⌜ Due run t stop ⌝ }
+    requires { ⌜ InRange run t stop ⌝ }
     ensures { λ r. ⌜ Went (stillNext (modelAt setup (now (table .entry)) (now (lengths .entry)) (now (coefficients .entry))) (λ k. getD (now (down .entry)) k false))
         (stillOut (modelAt setup (now (table .entry)) (now (lengths .entry)) (now (coefficients .entry))) (λ k. getD (now (down .entry)) k false))
         (stillForce (modelAt setup (now (table .entry)) (now (lengths .entry)) (now (coefficients .entry))) (λ k. getD (now (down .entry)) k false))
         (t + run .done) (record { piano = run .piano; cells = now (part .entry) }) (now (out .entry)) (now (trace .entry)) (run .done) (run .pushed)
         (record { piano = r .piano; cells = now (part .exit) }) (now (out .exit)) (now (trace .exit)) (r .done) (r .pushed)
-        × (r .done ≡ stop) × Due r t stop ⌝ }
+        × (r .done ≡ stop) × InRange r t stop ⌝ }
 {
     let piano = run.piano;
     let held = piano.held;
@@ -143,14 +143,14 @@ fn advance(
     requires { ⌜ Loaded instrument (now table) (now lengths) (now coefficients) (now part) (now scratch) ⌝ }
     requires { ⌜ score .count ≤ 64 ⌝ }
     requires { ⌜ run .done < m ⌝ }
-    requires { ⌜ Due run t m ⌝ }
-    ensures { λ r. ⌜ Went (nextOf instrument (eventsOf score)) (soundOf instrument (eventsOf score)) (forceOf instrument (eventsOf score))
+    requires { ⌜ InRange run t m ⌝ }
+    ensures { λ r. ⌜ Went (stateNext instrument (eventsOf score)) (sampleAt instrument (eventsOf score)) (pushedAt instrument (eventsOf score))
         (t + run .done) (record { piano = run .piano; cells = now (part .entry) }) (now (out .entry)) (now (trace .entry)) (run .done) (run .pushed)
         (record { piano = r .piano; cells = now (part .exit) }) (now (out .exit)) (now (trace .exit)) (r .done) (r .pushed)
-        × (run .done < r .done) × Due r t m ⌝ }
+        × (run .done < r .done) × InRange r t m ⌝ }
 {
     let piano = run.piano;
-    let setup = model::setup_of(instrument);
+    let setup = sample_constants::setup_of(instrument);
     let at = t + run.done;
     let acted = score::apply_events(
         part,
@@ -205,8 +205,8 @@ pub fn render(
     ensures { λ r. ⌜ Rendered instrument (eventsOf score) t m (record { piano = piano; cells = now (part .entry) }) (now (out .entry)) (now (trace .entry))
         (record { piano = r .piano; cells = now (part .exit) }) (now (out .exit)) (now (trace .exit)) (r .done) (r .pushed) ⌝ }
 {
-    let table = model::key_table(instrument);
-    let tables = model::string_tables(instrument);
+    let table = sample_constants::key_table(instrument);
+    let tables = sample_constants::string_tables(instrument);
     let lengths = tables.lengths;
     let coefficients = tables.coefficients;
     let mut run = Run {

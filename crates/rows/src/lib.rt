@@ -1,14 +1,14 @@
-// The loop filters of all strings. The dispersion rows of up to four strings go together, a stage of each at a turn: a stage waits
+// The loop filters of all tableStrings. The dispersion rows of up to four tableStrings go together, a stage of each at a turn: a stage waits
 // for the one before it in its own row alone, so the processor works on four at once.
 ghost use mathlib.Core.Path.{_≡_};
 ghost use mathlib.Core.List.{_++_};
 ghost use Prim.Native.Nat.{_+_, _*_, _^_, _≤_, _<_};
 ghost use lib.ListN.{length, drop};
-ghost use Rattle.string.specs.Table.{designAt, strings};
+ghost use Rattle.string.specs.Table.{designAt, tableStrings};
 ghost use Rattle.strings.specs.Strings.{AllFit, Indexed, cellsOf, filteredAll, vIns};
-ghost use Rattle.rows.specs.Rows.{startOf, Few, Laid, Started, Staged, InRows, Finished, Filtered, FilteredTo};
+ghost use Rattle.rows.specs.Rows.{rowStart, Few, Laid, Started, Staged, InRows, Finished, Filtered, FilteredTo};
 
-// Of a few strings that go through their rows together: where each row starts among the part's cells, its coefficient, and
+// Of a few tableStrings that go through their rows together: where each row starts among the part's cells, its coefficient, and
 // how many stages all of them have.
 pub struct Rows {
     pub starts: [usize; 4],
@@ -23,7 +23,7 @@ fn less(a: usize, b: usize) -> usize
     if a < b { a } else { b }
 }
 
-// The rows of the m strings from string i on, whose cells start at cell `first`.
+// The rows of the m tableStrings from string i on, whose cells start at cell `first`.
 fn rows_of(
     lengths: &[usize; 160],
     coefficients: &[f64; 128],
@@ -32,8 +32,8 @@ fn rows_of(
     m: usize,
 ) -> Rows
     requires { ⌜ (m ≤ 4) × (i + m ≤ 32) ⌝ }
-    requires { ⌜ first ≡ startOf (designAt (now lengths) (now coefficients)) i ⌝ }
-    requires { ⌜ startOf (designAt (now lengths) (now coefficients)) (i + m) < 2 ^ 64 ⌝ }
+    requires { ⌜ first ≡ rowStart (designAt (now lengths) (now coefficients)) i ⌝ }
+    requires { ⌜ rowStart (designAt (now lengths) (now coefficients)) (i + m) < 2 ^ 64 ⌝ }
     ensures { λ r. ⌜ Laid (designAt (now (lengths .entry)) (now (coefficients .entry))) i m r ⌝ }
 {
     let mut starts = [0usize; 4];
@@ -68,7 +68,7 @@ fn start_strings(
 ) -> [f64; 4]
     requires { ⌜ Few (designAt (now lengths) (now coefficients)) i m (now part) ⌝ }
     requires { ⌜ Indexed (now lengths) (now coefficients) (now indices) (i + m) t ⌝ }
-    requires { ⌜ first ≡ startOf (designAt (now lengths) (now coefficients)) i ⌝ }
+    requires { ⌜ first ≡ rowStart (designAt (now lengths) (now coefficients)) i ⌝ }
     ensures { λ r. ⌜ Started (designAt (now (lengths .entry)) (now (coefficients .entry))) i m t (now (part .entry)) (now (part .exit)) r ⌝ }
 {
     let mut v = [0.0; 4];
@@ -128,7 +128,7 @@ fn run_rows(
     }
 }
 
-// What is left of each loop filter behind `stages` stages; each string's v_in goes to its cell of v_in. It returns where the strings' cells end.
+// What is left of each loop filter behind `stages` stages; each string's v_in goes to its cell of v_in. It returns where the tableStrings' cells end.
 fn finish_strings(
     part: &mut [f64],
     v_in: &mut [f64],
@@ -142,7 +142,7 @@ fn finish_strings(
 ) -> usize
     requires { ⌜ Few (designAt (now lengths) (now coefficients)) i m (now part) ⌝ }
     requires { ⌜ Laid (designAt (now lengths) (now coefficients)) i m rows ⌝ }
-    requires { ⌜ first ≡ startOf (designAt (now lengths) (now coefficients)) i ⌝ }
+    requires { ⌜ first ≡ rowStart (designAt (now lengths) (now coefficients)) i ⌝ }
     requires { ⌜ i + m ≤ length (now «v_in») ⌝ }
     ensures { λ r. ⌜ Finished (designAt (now (lengths .entry)) (now (coefficients .entry))) i m (2 * rows .stages) (now (v .entry))
         (now (part .entry)) (now (part .exit)) (now («v_in» .entry)) (now («v_in» .exit)) r ⌝ }
@@ -158,7 +158,7 @@ fn finish_strings(
     at
 }
 
-// The loop filters of m strings: the stages that all their rows have go in turns.
+// The loop filters of m tableStrings: the stages that all their rows have go in turns.
 fn filter_together(
     part: &mut [f64],
     v_in: &mut [f64],
@@ -172,7 +172,7 @@ fn filter_together(
 ) -> usize
     requires { ⌜ Few (designAt (now lengths) (now coefficients)) i m (now part) ⌝ }
     requires { ⌜ Indexed (now lengths) (now coefficients) (now indices) (i + m) t ⌝ }
-    requires { ⌜ first ≡ startOf (designAt (now lengths) (now coefficients)) i ⌝ }
+    requires { ⌜ first ≡ rowStart (designAt (now lengths) (now coefficients)) i ⌝ }
     requires { ⌜ i + m ≤ length (now «v_in») ⌝ }
     ensures { λ r. ⌜ Filtered (designAt (now (lengths .entry)) (now (coefficients .entry))) i m t
         (now (part .entry)) (now (part .exit)) (now («v_in» .entry)) (now («v_in» .exit)) r ⌝ }
@@ -196,7 +196,7 @@ fn filter_one(
 ) -> usize
     requires { ⌜ Few (designAt (now lengths) (now coefficients)) i 1 (now part) ⌝ }
     requires { ⌜ Indexed (now lengths) (now coefficients) (now indices) (i + 1) t ⌝ }
-    requires { ⌜ first ≡ startOf (designAt (now lengths) (now coefficients)) i ⌝ }
+    requires { ⌜ first ≡ rowStart (designAt (now lengths) (now coefficients)) i ⌝ }
     requires { ⌜ i + 1 ≤ length (now «v_in») ⌝ }
     ensures { λ r. ⌜ Filtered (designAt (now (lengths .entry)) (now (coefficients .entry))) i 1 t
         (now (part .entry)) (now (part .exit)) (now («v_in» .entry)) (now («v_in» .exit)) r ⌝ }
@@ -208,13 +208,13 @@ fn filter_one(
     e
 }
 
-// Where a walk over the strings stands: the next string, and the cell where its cells start.
+// Where a walk over the tableStrings stands: the next string, and the cell where its cells start.
 pub struct Next {
     pub at: usize,
     pub i: usize,
 }
 
-// The loop filters of the next few of n strings: four, or as many as are left; a string that has no stages goes by itself. Each
+// The loop filters of the next few of n tableStrings: four, or as many as are left; a string that has no stages goes by itself. Each
 // number is a case of its own, so that the compiler keeps the rows' values in registers.
 fn filter_next(
     part: &mut [f64],
@@ -229,9 +229,9 @@ fn filter_next(
 ) -> Next
     requires { ⌜ AllFit (now lengths) (now coefficients) n ⌝ }
     requires { ⌜ Indexed (now lengths) (now coefficients) (now indices) n t ⌝ }
-    requires { ⌜ startOf (designAt (now lengths) (now coefficients)) n ≤ length (now part) ⌝ }
+    requires { ⌜ rowStart (designAt (now lengths) (now coefficients)) n ≤ length (now part) ⌝ }
     requires { ⌜ n ≤ length (now «v_in») ⌝ }
-    requires { ⌜ (at ≡ startOf (designAt (now lengths) (now coefficients)) i) × (i < n) ⌝ }
+    requires { ⌜ (at ≡ rowStart (designAt (now lengths) (now coefficients)) i) × (i < n) ⌝ }
     ensures { λ r. ⌜ FilteredTo (designAt (now (lengths .entry)) (now (coefficients .entry))) i n t
         (now (part .entry)) (now (part .exit)) (now («v_in» .entry)) (now («v_in» .exit)) r ⌝ }
 {
@@ -268,10 +268,10 @@ pub fn filter_strings(
 )
     requires { ⌜ AllFit (now lengths) (now coefficients) n ⌝ }
     requires { ⌜ Indexed (now lengths) (now coefficients) (now indices) n t ⌝ }
-    requires { ⌜ cellsOf (strings (now lengths) (now coefficients) n) ≤ length (now part) ⌝ }
+    requires { ⌜ cellsOf (tableStrings (now lengths) (now coefficients) n) ≤ length (now part) ⌝ }
     requires { ⌜ n ≤ length (now «v_in») ⌝ }
-    ensures { λ _. ⌜ (now (part .exit) ≡ filteredAll (strings (now (lengths .entry)) (now (coefficients .entry)) n) t (now (part .entry)))
-        × (now («v_in» .exit) ≡ vIns (strings (now (lengths .entry)) (now (coefficients .entry)) n) t (now (part .entry)) ++ drop n (now («v_in» .entry))) ⌝ }
+    ensures { λ _. ⌜ (now (part .exit) ≡ filteredAll (tableStrings (now (lengths .entry)) (now (coefficients .entry)) n) t (now (part .entry)))
+        × (now («v_in» .exit) ≡ vIns (tableStrings (now (lengths .entry)) (now (coefficients .entry)) n) t (now (part .entry)) ++ drop n (now («v_in» .entry))) ⌝ }
 {
     let mut at = 0usize;
     let mut i = 0usize;

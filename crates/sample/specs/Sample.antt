@@ -8,7 +8,7 @@ use lib.ListN.{length}
 use lib.Ieee.{Float, binary64, add, sub, mul, div, lt}
 use Rattle.float.specs.Float.{maxOf, zero as +0}
 use Rattle.string.specs.declared.StringDesign.{StringDesign}
-use Rattle.string.specs.Table.{strings}
+use Rattle.string.specs.Table.{tableStrings}
 use Rattle.points.specs.declared.Constants.{Constants}
 use Rattle.points.specs.declared.HammerState.{HammerState}
 use Rattle.points.specs.declared.HammerState.the-variants.{Resting, Flying}
@@ -19,24 +19,24 @@ use Rattle.keys.specs.Keys.{keysOf, dampers, bridgeSpeeds}
 use Rattle.sample.specs.declared.Motion.{Motion}
 use Rattle.sample.specs.declared.Setup.{Setup}
 
--- what a sample is computed with: the instrument's constants, its keys and its strings
+-- what a sample is computed with: the instrument's constants, its keys and its tableStrings
 pub record Model : Type 0 where
   pub constants : Constants
   pub keys : List KeyConstants
-  pub strings : List StringDesign
+  pub tableStrings : List StringDesign
 
 abbrev pub modelAt : Setup → List Float → List ℕ → List Float → Model
 modelAt setup table lengths coefficients = record {
   constants = setup .constants;
   keys = keysOf table (setup .keys);
-  strings = strings lengths coefficients (setup .strings);
+  tableStrings = tableStrings lengths coefficients (setup .strings);
 }
 
--- the tables hold strings that can sound, and the part w and the scratch v have cells for them
+-- the tables hold tableStrings that can sound, and the part w and the scratch v have cells for them
 pub record Ready (setup : Setup) (lengths : List ℕ) (coefficients w v : List Float) : Type 0 where
   pub fit : AllFit lengths coefficients (setup .strings)
   pub keys : setup .keys ≤ 16
-  pub cells : cellsOf (strings lengths coefficients (setup .strings)) ≤ length w
+  pub cells : cellsOf (tableStrings lengths coefficients (setup .strings)) ≤ length w
   pub scratch : setup .strings ≤ length v
 
 -- the bridge's part of a sample: the cells w come to w', and r is the force on the bridge

@@ -10,7 +10,7 @@ use borrow.Author.Tests.{eq-eqb, ne-eqb}
 use lib.ListN.{length, take, drop, getD, set, length-set, drop-of-length-le, length-take}
 use lib.Seq.{drop-cons, getD-take, getD-set-same, getD-set-other}
 use Rattle.cells.specs.Numbered.{one-more}
-use Rattle.design.specs.declared.KeyDesign.{KeyDesign}
+use Rattle.instrument_fields.specs.declared.KeyDesign.{KeyDesign}
 use Rattle.instrument.specs.declared.Instrument.{Instrument}
 use Rattle.instrument.specs.Valid.{keyAt}
 use Rattle.string.specs.declared.StringDesign.{StringDesign}

@@ -8,7 +8,7 @@ ghost use mathlib.Core.Bool.{false};
 ghost use Prim.Native.Nat.{ℕ, _≤_, _<_};
 ghost use lib.ListN.{length, getD};
 ghost use Rattle.string.specs.String.{sizeOf};
-ghost use Rattle.string.specs.Table.{strings};
+ghost use Rattle.string.specs.Table.{tableStrings};
 ghost use Rattle.strings.specs.Strings.{cellsOf};
 ghost use Rattle.score.specs.Events.{State, keyIndex, isDown, AllDown, cleared, clearedAll, struckKey, heldTo, handDamped, pedalTo, Playable, applied, applyAll};
 ghost use Rattle.score.specs.Score.{eventsOf, eventsAt, NextFrom};
@@ -74,8 +74,8 @@ fn clear_strings(
     k: usize,
 )
     requires { ⌜ n ≤ 32 ⌝ }
-    requires { ⌜ cellsOf (strings (now lengths) (now coefficients) n) ≤ length (now part) ⌝ }
-    ensures { λ _. ⌜ now (part .exit) ≡ clearedAll k (strings (now (lengths .entry)) (now (coefficients .entry)) n) (now (part .entry)) ⌝ }
+    requires { ⌜ cellsOf (tableStrings (now lengths) (now coefficients) n) ≤ length (now part) ⌝ }
+    ensures { λ _. ⌜ now (part .exit) ≡ clearedAll k (tableStrings (now (lengths .entry)) (now (coefficients .entry)) n) (now (part .entry)) ⌝ }
 {
     let mut at = 0usize;
     for i in 0..n {
@@ -180,7 +180,7 @@ fn apply(
 ) -> Piano
     requires { ⌜ Playable instrument (now lengths) (now coefficients) n (now part) ⌝ }
     ensures { λ r. ⌜ record { piano = r; cells = now (part .exit) }
-        ≡ applied instrument (strings (now (lengths .entry)) (now (coefficients .entry)) n) event (record { piano = piano; cells = now (part .entry) }) ⌝ }
+        ≡ applied instrument (tableStrings (now (lengths .entry)) (now (coefficients .entry)) n) event (record { piano = piano; cells = now (part .entry) }) ⌝ }
 {
     match event {
         Event::NoteOn { key, velocity } => {
@@ -226,7 +226,7 @@ pub fn apply_events(
     requires { ⌜ Playable instrument (now lengths) (now coefficients) n (now part) ⌝ }
     requires { ⌜ score .count ≤ 64 ⌝ }
     ensures { λ r. ⌜ record { piano = r; cells = now (part .exit) }
-        ≡ applyAll instrument (strings (now (lengths .entry)) (now (coefficients .entry)) n) (eventsAt (eventsOf score) t) (record { piano = piano; cells = now (part .entry) }) ⌝ }
+        ≡ applyAll instrument (tableStrings (now (lengths .entry)) (now (coefficients .entry)) n) (eventsAt (eventsOf score) t) (record { piano = piano; cells = now (part .entry) }) ⌝ }
 {
     let mut p = piano;
     for i in 0..score.count {

@@ -1,6 +1,6 @@
 -- The loops that move the later events by one: after j of them a list pasted into the array (`lib.Seq.paste`). Assumes nothing.
 use mathlib.Core.Path.{_≡_, refl, sym, _∙_, ap}
-use mathlib.Core.Bool.{Bool, true, false}
+use mathlib.Core.Bool.{Bool, true, false, cond}
 use mathlib.Core.List.{List, [], _∷_, _++_}
 use Prim.Native.Nat.{ℕ, zero, suc, _+_, _-_, _<_, _≤_}
 use native.Mathlib.Omega.{arith}
@@ -10,11 +10,10 @@ use lib.ListN.{length, take, drop, getD, set, length-drop, length-set}
 use lib.Seq.{getD-drop, length-take-le, paste, paste-zero, paste-suc, length-paste, take-suc-set, take-take, take-add, drop-at, drop-set-lt, append-snoc}
 use Rattle.score.specs.declared.TimedEvent.{TimedEvent}
 use Rattle.score.specs.Score.{noEvent}
-use Rattle.positions.specs.Positions.{pick}
 use Rattle.score_edits.specs.Edits.{mayPrecede, placed, placeOf, removed}
 
 placed-if : (b : Bool) (x e : TimedEvent) (xs : List TimedEvent) (k : ℕ)
-    → pick b (x ∷ take k xs ++ e ∷ drop k xs) (e ∷ x ∷ xs) ≡ take (pick b (suc k) 0) (x ∷ xs) ++ e ∷ drop (pick b (suc k) 0) (x ∷ xs)
+    → cond b (x ∷ take k xs ++ e ∷ drop k xs) (e ∷ x ∷ xs) ≡ take (cond b (suc k) 0) (x ∷ xs) ++ e ∷ drop (cond b (suc k) 0) (x ∷ xs)
 placed-if true x e xs k = refl
 placed-if false x e xs k = refl
 

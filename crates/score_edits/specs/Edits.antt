@@ -1,6 +1,6 @@
 -- Document 01, "The session": insert goes "after all events at or before its position q"; remove takes "the event at an index from 0, of position q". Refusals 7 and 13: "a position
 -- that falls or is above that end, a velocity of 13". Definitions only: assumes nothing.
-use mathlib.Core.Bool.{Bool, true, false, _&&_}
+use mathlib.Core.Bool.{Bool, true, false, cond, _&&_}
 use mathlib.Core.List.{List, [], _∷_}
 use Prim.Native.Nat.{ℕ, zero, suc}
 use lib.Dec.{leb}
@@ -9,7 +9,7 @@ use lib.IntN.{pos}
 use Rattle.score.specs.declared.Event.{Event}
 use Rattle.score.specs.declared.Event.the-variants.{NoteOn, NoteOff, Pedal, HandDamp}
 use Rattle.score.specs.declared.TimedEvent.{TimedEvent}
-use Rattle.positions.specs.Positions.{end, pick}
+use Rattle.positions.specs.Positions.{end}
 
 -- the one order of a score: whether x may stand before y
 unfoldable pub mayPrecede : TimedEvent → TimedEvent → Bool
@@ -18,12 +18,12 @@ mayPrecede x y = leb (x .position) (y .position)
 -- after all events that may precede it
 unfoldable pub placed : List TimedEvent → TimedEvent → List TimedEvent
 placed [] e = e ∷ []
-placed (x ∷ xs) e = pick (mayPrecede x e) (x ∷ placed xs e) (e ∷ x ∷ xs)
+placed (x ∷ xs) e = cond (mayPrecede x e) (x ∷ placed xs e) (e ∷ x ∷ xs)
 
 -- the index at which it is placed
 unfoldable pub placeOf : List TimedEvent → TimedEvent → ℕ
 placeOf [] e = 0
-placeOf (x ∷ xs) e = pick (mayPrecede x e) (suc (placeOf xs e)) 0
+placeOf (x ∷ xs) e = cond (mayPrecede x e) (suc (placeOf xs e)) 0
 
 -- the event at an index from 0 is gone
 unfoldable pub removed : List TimedEvent → ℕ → List TimedEvent

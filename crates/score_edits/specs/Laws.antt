@@ -1,6 +1,6 @@
 -- Laws of a score: an edit keeps it sound, and leaves the events before its position alone. Assumes nothing.
 use mathlib.Core.Path.{_≡_, refl, sym, _∙_, ap}
-use mathlib.Core.Bool.{Bool, true, false, _&&_}
+use mathlib.Core.Bool.{Bool, true, false, cond, _&&_}
 use mathlib.Core.List.{List, [], _∷_, _++_}
 use Prim.Native.Nat.{ℕ, zero, suc, _+_, _≤_, _<_}
 use native.Mathlib.Omega.{arith}
@@ -9,7 +9,7 @@ use borrow.Author.Tests.{le-leb, lt-leb, ne-eqb, leb-true, leb-false}
 use lib.ListN.{length, take, drop, getD}
 use Rattle.score.specs.declared.TimedEvent.{TimedEvent}
 use Rattle.score.specs.Score.{eventsAt}
-use Rattle.positions.specs.Positions.{end, pick}
+use Rattle.positions.specs.Positions.{end}
 use Rattle.positions.specs.Laws.{and-true, and-both}
 use Rattle.score_edits.specs.Edits.{mayPrecede, placed, placeOf, removed, soundEvent, soundVelocity, soundAfter, soundScore}
 
@@ -29,7 +29,7 @@ precede-both x y z e f = le-leb (x .position) (z .position) (omega (arith, leb-t
 
 -- ---- lengths
 
-length-if : (b : Bool) (x e : TimedEvent) (xs ys : List TimedEvent) → length ys ≡ suc (length xs) → length (pick b (x ∷ ys) (e ∷ x ∷ xs)) ≡ suc (suc (length xs))
+length-if : (b : Bool) (x e : TimedEvent) (xs ys : List TimedEvent) → length ys ≡ suc (length xs) → length (cond b (x ∷ ys) (e ∷ x ∷ xs)) ≡ suc (suc (length xs))
 length-if true x e xs ys h = ap suc h
 length-if false x e xs ys h = refl
 
@@ -88,7 +88,7 @@ after-placed x [] e a s h = after-make x e [] a s (after-none e)
 after-placed x (y ∷ ys) e a s h = let p = after-parts x y ys h in go (mayPrecede y e) refl p (λ b. after-placed y ys e b s (p .2))
   where
     go : (b : Bool) → mayPrecede y e ≡ b → (mayPrecede x y ≡ true) × (soundEvent y ≡ true) × (soundAfter y ys ≡ true)
-        → (mayPrecede y e ≡ true → soundAfter y (placed ys e) ≡ true) → soundAfter x (pick b (y ∷ placed ys e) (e ∷ y ∷ ys)) ≡ true
+        → (mayPrecede y e ≡ true → soundAfter y (placed ys e) ≡ true) → soundAfter x (cond b (y ∷ placed ys e) (e ∷ y ∷ ys)) ≡ true
     go true b p ih = after-make x y (placed ys e) (p .0) (p .1) (ih b)
     go false b p ih = after-make x e (y ∷ ys) a s (after-make e y ys (precede-other y e b) (p .1) (p .2))
 
@@ -97,7 +97,7 @@ unfolding placed
 sound-placed [] e s h = score-make e [] s (after-none e)
 sound-placed (x ∷ xs) e s h = let p = score-parts x xs h in go (mayPrecede x e) refl p
   where
-    go : (b : Bool) → mayPrecede x e ≡ b → (soundEvent x ≡ true) × (soundAfter x xs ≡ true) → soundScore (pick b (x ∷ placed xs e) (e ∷ x ∷ xs)) ≡ true
+    go : (b : Bool) → mayPrecede x e ≡ b → (soundEvent x ≡ true) × (soundAfter x xs ≡ true) → soundScore (cond b (x ∷ placed xs e) (e ∷ x ∷ xs)) ≡ true
     go true b p = score-make x (placed xs e) (p .0) (after-placed x xs e b s (p .1))
     go false b p = score-make e (x ∷ xs) s (after-make e x xs (precede-other x e b) (p .0) (p .1))
 
@@ -124,7 +124,7 @@ sound-position (x ∷ xs) (suc k) d e h = sound-position xs k d (score-after x x
 -- ---- the events before an edit's position stay
 
 placed-if : (b : Bool) (k : ℕ) (x e : TimedEvent) (xs ys : List TimedEvent) → eqb (e .position) k ≡ false → eventsAt ys k ≡ eventsAt xs k
-    → eventsAt (pick b (x ∷ ys) (e ∷ x ∷ xs)) k ≡ eventsAt (x ∷ xs) k
+    → eventsAt (cond b (x ∷ ys) (e ∷ x ∷ xs)) k ≡ eventsAt (x ∷ xs) k
 unfolding eventsAt
 placed-if true k x e xs ys h g = rw g
 placed-if false k x e xs ys h g = rw h

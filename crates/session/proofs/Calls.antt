@@ -30,9 +30,9 @@ use Rattle.score_edits.specs.Edits.{placed, removed}
 use Rattle.machine.specs.Refusals.{orElse, scratchCells, playRefusal, cueRefusal, goRefusal, insertRefusal, removeRefusal}
 use Rattle.machine.specs.Machine.{startOf, settled}
 use Rattle.machine.specs.Laws.{else-zero, play-passed, cue-passed, go-passed, insert-passed, remove-passed}
-use Rattle.cues.specs.declared.Cue.{Cue}
-use Rattle.cues.specs.Cues.{slotAt, freeSlot, dropAbove, soundPiano}
-use Rattle.cues.specs.Laws.{slot-in, free-slot-full}
+use Rattle.session_cues.specs.declared.Cue.{Cue}
+use Rattle.session_cues.specs.Cues.{slotAt, freeSlot, dropAbove, soundPiano}
+use Rattle.session_cues.specs.Laws.{slot-in, free-slot-full}
 use Rattle.session_record.specs.declared.Session.{Session}
 use Rattle.session_record.specs.Record.{scoreOf, recordRefusal, openRefusal}
 use Rattle.session_record.specs.Laws.{Passed, passed, open-passed}

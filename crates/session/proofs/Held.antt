@@ -18,9 +18,9 @@ use Rattle.score.specs.declared.Piano.{Piano}
 use Rattle.score.specs.Events.{State}
 use Rattle.render.specs.Render.{silentPiano, silence}
 use Rattle.positions.specs.Positions.{isIn}
-use Rattle.cues.specs.declared.Cue.{Cue}
-use Rattle.cues.specs.Cues.{slotAt}
-use Rattle.cues.specs.Laws.{slot-in}
+use Rattle.session_cues.specs.declared.Cue.{Cue}
+use Rattle.session_cues.specs.Cues.{slotAt}
+use Rattle.session_cues.specs.Laws.{slot-in}
 use Rattle.session_record.specs.declared.Session.{Session}
 use Rattle.session.specs.Calls.{keptBy, emptyCue, stateNow, stateCue, heldAt, Restores}
 use Rattle.session.specs.Laws.{get-any, held-now, silent-cells, silent-piano, held-cue, held-none}

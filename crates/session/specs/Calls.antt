@@ -1,7 +1,7 @@
 -- Document 01, "The session": what each call promises, by equation: its answer, the session, and every cell of work memory, output and trace afterwards. Scratch is free. Which part
 -- holds which cue is fixed: slot j in part j + 1. Definitions only: assumes nothing.
 use mathlib.Core.Path.{_≡_}
-use mathlib.Core.Bool.{Bool, true, false}
+use mathlib.Core.Bool.{Bool, true, false, cond}
 use mathlib.Core.List.{List, [], _∷_, _++_, map}
 use Prim.Native.Nat.{ℕ, _+_, _-_, _*_}
 use lib.Dec.{eqb, ltb}
@@ -16,12 +16,12 @@ use Rattle.score.specs.declared.Piano.{Piano}
 use Rattle.score.specs.Events.{State}
 use Rattle.score.specs.Score.{noEvent}
 use Rattle.render.specs.Render.{silentPiano, silence, run, samples, forces}
-use Rattle.positions.specs.Positions.{pick, isIn, above}
+use Rattle.positions.specs.Positions.{isIn, above}
 use Rattle.score_edits.specs.Edits.{placed, removed}
 use Rattle.machine.specs.Refusals.{orElse, playRefusal, cueRefusal, goRefusal, insertRefusal, removeRefusal}
 use Rattle.machine.specs.Machine.{startOf, settled}
-use Rattle.cues.specs.declared.Cue.{Cue}
-use Rattle.cues.specs.Cues.{keptOf, slotAt, freeSlot, dropAbove}
+use Rattle.session_cues.specs.declared.Cue.{Cue}
+use Rattle.session_cues.specs.Cues.{keptOf, slotAt, freeSlot, dropAbove}
 use Rattle.session_record.specs.declared.Session.{Session}
 use Rattle.session_record.specs.Record.{scoreOf, openRefusal, recordRefusal}
 use Rattle.session.specs.declared.Answer.{Answer}
@@ -49,7 +49,7 @@ stateCue i s work j = record { piano = cueAt s j .piano; cells = part ((j + 1) *
 
 -- the state held for a position: the piano now where it stands there, else the kept cue's, else silence
 unfoldable pub heldAt : Instrument → Session → List Float → ℕ → State
-heldAt i s work x = pick (eqb x (s .t)) (stateNow i s work) (pick (isIn x (keptBy s)) (stateCue i s work (slotAt x (s .cues))) (silence i))
+heldAt i s work x = cond (eqb x (s .t)) (stateNow i s work) (cond (isIn x (keptBy s)) (stateCue i s work (slotAt x (s .cues))) (silence i))
 
 -- "A refusal returns its number alone and alters nothing."
 abbrev pub refusedWith : Session → ℕ → Outcome

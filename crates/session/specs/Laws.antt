@@ -1,6 +1,6 @@
 -- Laws of work memory's parts and of the state held for a position. Assumes nothing.
 use mathlib.Core.Path.{_≡_, refl, sym, _∙_, ap}
-use mathlib.Core.Bool.{Bool, true, false}
+use mathlib.Core.Bool.{Bool, true, false, cond}
 use mathlib.Core.List.{List, [], _∷_}
 use Prim.Native.Nat.{ℕ, zero, suc, _+_, _*_, _<_, _≤_}
 use native.Mathlib.Omega.{arith}
@@ -25,10 +25,10 @@ use Rattle.render.specs.Laws.{render-contact, render-length}
 use Rattle.render.specs.Hammers.{OnKey, render-hammer}
 use Rattle.render.specs.Steps.{stateAfter}
 use Rattle.render.specs.Work.{cells-are}
-use Rattle.positions.specs.Positions.{pick, isIn}
-use Rattle.cues.specs.declared.Cue.{Cue}
-use Rattle.cues.specs.Cues.{contactsOf, hammerOn, slotAt, soundPiano}
-use Rattle.cues.specs.Laws.{slot-in, slot-kept, cue-sound, piano-parts}
+use Rattle.positions.specs.Positions.{isIn}
+use Rattle.session_cues.specs.declared.Cue.{Cue}
+use Rattle.session_cues.specs.Cues.{contactsOf, hammerOn, slotAt, soundPiano}
+use Rattle.session_cues.specs.Laws.{slot-in, slot-kept, cue-sound, piano-parts}
 use Rattle.session_record.specs.declared.Session.{Session}
 use Rattle.session_record.specs.Laws.{Passed}
 use Rattle.session.specs.Calls.{keptBy, cueAt, emptyCue, stateNow, stateCue, heldAt}

@@ -6,15 +6,15 @@ ghost use Prim.Native.Nat.{_*_, _≤_};
 ghost use lib.ListN.{length};
 ghost use Rattle.instrument.specs.Valid.{valid};
 ghost use Rattle.instrument.specs.Work.{partCells};
-ghost use Rattle.cues.specs.Cues.{keptOf};
+ghost use Rattle.session_cues.specs.Cues.{keptOf};
 ghost use Rattle.machine.specs.Machine.{settled};
 ghost use Rattle.session.specs.Calls.{freshSession, refusedWith, Restores, Edits, OpenMeets, PlayMeets, CueMeets, GoMeets, InsertMeets, RemoveMeets};
-use cues::Cue;
 use instrument::Instrument;
 use score::Event;
 use score::Piano;
 use score::Score;
 use score::TimedEvent;
+use session_cues::Cue;
 use session_record::Session;
 
 // "accepted, or the refusal's number; play's k; go's number; an edit's t and number dropped"
@@ -147,13 +147,13 @@ pub fn cue(instrument: Instrument, session: Session, work: &mut [f64]) -> Outcom
     }
     let t = session.t;
     let slots = session.cues;
-    if cues::slot_at(slots, 0, t) < 4 {
+    if session_cues::slot_at(slots, 0, t) < 4 {
         return Outcome {
             answer: Answer::Cued,
             session: session,
         };
     }
-    let slot = cues::free_slot(slots);
+    let slot = session_cues::free_slot(slots);
     let w = session_record::part_size(instrument);
     memory::copy_part(work, (slot + 1) * w, 0, w);
     let piano = session.piano;
@@ -179,7 +179,7 @@ fn restore(instrument: Instrument, session: Session, x: u64, work: &mut [f64]) -
     }
     let w = session_record::part_size(instrument);
     let slots = session.cues;
-    let slot = cues::slot_at(slots, 0, x);
+    let slot = session_cues::slot_at(slots, 0, x);
     if slot < 4 {
         memory::copy_part(work, 0, (slot + 1) * w, w);
         let cue = slots[slot];
@@ -244,7 +244,7 @@ fn settle(session: Session, q: u64) -> u64
 {
     if q < session.t {
         let slots = session.cues;
-        cues::nearest(slots, q)
+        session_cues::nearest(slots, q)
     } else {
         session.t
     }
@@ -265,8 +265,8 @@ fn edit(
     let t = settle(session, q);
     let piano = restore(instrument, session, t, work);
     let slots = session.cues;
-    let dropped = cues::count_above(slots, q);
-    let left = cues::drop_above(slots, q);
+    let dropped = session_cues::count_above(slots, q);
+    let left = session_cues::drop_above(slots, q);
     Outcome {
         answer: Answer::Edited {
             t: t,

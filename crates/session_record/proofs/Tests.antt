@@ -1,6 +1,6 @@
 -- Each test of a call, where it refuses and where it lets through. Assumes nothing.
 use mathlib.Core.Path.{_≡_, refl, sym, _∙_, ap}
-use mathlib.Core.Bool.{Bool, true, false, not, _&&_}
+use mathlib.Core.Bool.{Bool, true, false, cond, not, _&&_}
 use mathlib.Core.List.{List, _∷_}
 use Prim.Native.Nat.{ℕ, zero, suc, _+_, _-_, _*_, _≤_, _<_, max}
 use native.Mathlib.Omega.{arith}
@@ -11,12 +11,12 @@ use Rattle.instrument.specs.declared.Instrument.{Instrument}
 use Rattle.instrument.specs.Valid.{valid}
 use Rattle.instrument.specs.Work.{partCells}
 use Rattle.score.specs.declared.TimedEvent.{TimedEvent}
-use Rattle.positions.specs.Positions.{end, pick, count, isIn, others, upTo, greatest}
+use Rattle.positions.specs.Positions.{end, count, isIn, others, upTo, greatest}
 use Rattle.positions.specs.Laws.{and-true, count-others, greatest-upTo}
 use Rattle.score_edits.specs.Edits.{soundVelocity}
-use Rattle.cues.specs.declared.Cue.{Cue}
-use Rattle.cues.specs.Cues.{keptOf, slotAt, freeSlot}
-use Rattle.cues.specs.Laws.{slot-in, kept-length, free-slot-full}
+use Rattle.session_cues.specs.declared.Cue.{Cue}
+use Rattle.session_cues.specs.Cues.{keptOf, slotAt, freeSlot}
+use Rattle.session_cues.specs.Laws.{slot-in, kept-length, free-slot-full}
 use Rattle.machine.specs.Refusals.{scratchCells, playRefusal, cueRefusal, goRefusal, insertRefusal, removeRefusal}
 use Rattle.machine.specs.Machine.{startOf}
 use Rattle.session_record.specs.declared.Session.{Session}
@@ -95,7 +95,7 @@ module _ (t : ℕ) (cs : List Cue) (four : length cs ≡ 4) where
 -- ---- go: where it starts; 9, 11, 16
 
 module _ (t p near : ℕ) (cues : List ℕ) (e : near ≡ greatest (upTo p cues)) where
-  start-if : (b : Bool) → leb t p ≡ b → startOf t cues p ≡ pick b (max t (greatest (upTo p cues))) (greatest (upTo p cues))
+  start-if : (b : Bool) → leb t p ≡ b → startOf t cues p ≡ cond b (max t (greatest (upTo p cues))) (greatest (upTo p cues))
   unfolding upTo greatest
   start-if true k = rw k
   start-if false k = rw k

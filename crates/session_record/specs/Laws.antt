@@ -10,7 +10,7 @@ use Rattle.instrument.specs.Work.{partCells}
 use Rattle.positions.specs.Positions.{end}
 use Rattle.positions.specs.Laws.{and-true}
 use Rattle.score_edits.specs.Edits.{soundScore}
-use Rattle.cues.specs.Cues.{soundPiano, soundCues}
+use Rattle.session_cues.specs.Cues.{soundPiano, soundCues}
 use Rattle.machine.specs.Refusals.{refuseIf}
 use Rattle.machine.specs.Laws.{else-zero, test-passed}
 use Rattle.session_record.specs.declared.Session.{Session}

@@ -11,7 +11,7 @@ use Rattle.instrument.specs.Work.{partCells}
 use Rattle.score.specs.declared.TimedEvent.{TimedEvent}
 use Rattle.positions.specs.Positions.{end}
 use Rattle.score_edits.specs.Edits.{soundScore}
-use Rattle.cues.specs.Cues.{soundPiano, soundCues}
+use Rattle.session_cues.specs.Cues.{soundPiano, soundCues}
 use Rattle.machine.specs.Refusals.{refuseIf, orElse}
 use Rattle.session_record.specs.declared.Session.{Session}
 

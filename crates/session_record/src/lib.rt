@@ -7,13 +7,13 @@ ghost use Prim.Native.Nat.{_+_, _≤_};
 ghost use lib.ListN.{length};
 ghost use Rattle.machine.specs.Refusals.{orElse, playRefusal, cueRefusal, goRefusal, insertRefusal, removeRefusal, scratchCells};
 ghost use Rattle.machine.specs.Machine.{startOf};
-ghost use Rattle.cues.specs.Cues.{keptOf};
+ghost use Rattle.session_cues.specs.Cues.{keptOf};
 ghost use Rattle.session_record.specs.Record.{soundSession, workTest, openRefusal, recordRefusal};
-use cues::Cue;
 use instrument::Instrument;
 use score::Piano;
 use score::TimedEvent;
 use score_edits::END;
+use session_cues::Cue;
 
 // The score is the first `count` events. What lies past it, and in slots that keep no cue, decides nothing.
 pub struct Session {
@@ -57,9 +57,9 @@ fn is_sound_session(keys: usize, session: Session) -> bool
     let events = session.events;
     let in_score = score_edits::is_sound_score(events, count);
     let piano = session.piano;
-    let now = cues::is_sound_piano(keys, session.t, piano);
+    let now = session_cues::is_sound_piano(keys, session.t, piano);
     let slots = session.cues;
-    let kept = cues::are_sound(keys, slots);
+    let kept = session_cues::are_sound(keys, slots);
     (session.t <= END) & in_score & now & kept
 }
 
@@ -147,10 +147,10 @@ pub fn cue_refusal(instrument: Instrument, session: Session, cells: usize) -> u6
         return refusal;
     }
     let slots = session.cues;
-    if cues::slot_at(slots, 0, session.t) < 4 {
+    if session_cues::slot_at(slots, 0, session.t) < 4 {
         return 0;
     }
-    if cues::free_slot(slots) < 4 {
+    if session_cues::free_slot(slots) < 4 {
         return 0;
     }
     CUES_FULL
@@ -161,7 +161,7 @@ pub fn start_of(session: Session, p: u64) -> u64
     ensures { λ r. ⌜ (r ≡ startOf (session .t) (keptOf (session .cues)) p) × (r ≤ p) × (length (session .cues) ≡ 4) ⌝ }
 {
     let slots = session.cues;
-    let near = cues::nearest(slots, p);
+    let near = session_cues::nearest(slots, p);
     if (session.t <= p) & (near < session.t) {
         session.t
     } else {

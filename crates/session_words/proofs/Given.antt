@@ -14,8 +14,8 @@ use Rattle.score.specs.declared.Event.the-variants.{NoteOn, NoteOff, Pedal, Han
 use Rattle.score.proofs.Event as EventType
 use Rattle.score.specs.declared.TimedEvent.{TimedEvent}
 use Rattle.score.proofs.TimedEvent as TimedType
-use Rattle.cues.specs.declared.Cue.{Cue}
-use Rattle.cues.proofs.Cue as CueType
+use Rattle.session_cues.specs.declared.Cue.{Cue}
+use Rattle.session_cues.proofs.Cue as CueType
 use Rattle.session_record.specs.declared.Session.{Session}
 use Rattle.session_record.proofs.Session as SessionType
 use Rattle.piano_words.specs.Items.{AllOf}

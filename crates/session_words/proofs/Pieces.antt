@@ -15,7 +15,7 @@ use Rattle.score.specs.declared.Event.{Event}
 use Rattle.score.specs.declared.Event.the-variants.{NoteOn, NoteOff, Pedal, HandDamp}
 use Rattle.score.specs.declared.TimedEvent.{TimedEvent}
 use Rattle.score.specs.declared.Piano.{Piano}
-use Rattle.cues.specs.declared.Cue.{Cue}
+use Rattle.session_cues.specs.declared.Cue.{Cue}
 use Rattle.session_record.specs.declared.Session.{Session}
 use Rattle.piano_words.specs.Items.{joined, itemsOf, sets-next, sets-whole}
 use Rattle.piano_words.specs.Piano.{bitOf, pianoWords, pianoOf}

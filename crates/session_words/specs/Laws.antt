@@ -16,7 +16,7 @@ use Rattle.counting.specs.Laws.{all-build, all-at}
 use Rattle.score.specs.declared.Event.{Event}
 use Rattle.score.specs.declared.Event.the-variants.{NoteOn, NoteOff, Pedal, HandDamp}
 use Rattle.score.specs.declared.TimedEvent.{TimedEvent}
-use Rattle.cues.specs.declared.Cue.{Cue}
+use Rattle.session_cues.specs.declared.Cue.{Cue}
 use Rattle.session_record.specs.declared.Session.{Session}
 use Rattle.piano_words.specs.Items.{joined, itemsOf, AllOf, joined-length, items-back, items-length, all-items}
 use Rattle.piano_words.specs.Piano.{pianoWords, pianoOf}

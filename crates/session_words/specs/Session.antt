@@ -11,7 +11,7 @@ use Rattle.counting.specs.Below.{allBelow}
 use Rattle.score.specs.declared.Event.{Event}
 use Rattle.score.specs.declared.Event.the-variants.{NoteOn, NoteOff, Pedal, HandDamp}
 use Rattle.score.specs.declared.TimedEvent.{TimedEvent}
-use Rattle.cues.specs.declared.Cue.{Cue}
+use Rattle.session_cues.specs.declared.Cue.{Cue}
 use Rattle.session_record.specs.declared.Session.{Session}
 use Rattle.piano_words.specs.Items.{joined, itemsOf}
 use Rattle.piano_words.specs.Piano.{bitOf, pianoWords, pianoOf}

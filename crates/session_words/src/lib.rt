@@ -8,13 +8,13 @@ ghost use lib.Seq.{sets};
 ghost use Rattle.counting.specs.Below.{allBelow};
 ghost use Rattle.piano_words.specs.Items.{joined, itemsOf};
 ghost use Rattle.session_words.specs.Session.{eventOf, isEvent, eventWords, timedWords, timedOf, cueWords, cueOf, wordsOf, sessionOf, ReadMeets, PutMeets};
-use cues::Cue;
 use piano_words::bit_of;
 use piano_words::bits_of;
 use piano_words::put;
 use piano_words::word_at;
 use score::Event;
 use score::TimedEvent;
+use session_cues::Cue;
 use session_record::Session;
 
 // How many words a session has.

@@ -4,7 +4,7 @@ ghost use mathlib.Core.Path.{_≡_};
 ghost use Prim.Native.Nat.{_+_, _*_, _%_, _≤_, _<_, _^_};
 ghost use lib.ListN.{length};
 ghost use Rattle.cells.specs.Line.{lineRead, lineWrite};
-ghost use Rattle.string.specs.String.{sizeOf, Sound, Strung, IndicesAt, readAt, writeAt, readsOf, vIn, filtered, pointWrites, nutWrite, bridgeWrite};
+ghost use Rattle.string.specs.String.{sizeOf, HasLines, Strung, IndicesAt, readAt, writeAt, readsOf, vIn, filtered, pointWrites, nutWrite, bridgeWrite};
 ghost use Rattle.string.specs.Steps.{atRow, uIn, started, finishedOut, finished};
 ghost use Rattle.string.specs.Table.{designAt, indicesIn, putIndices};
 
@@ -84,7 +84,7 @@ fn next_index(idx: usize, len: usize, t: u64) -> usize
 
 // A string's indices at sample t.
 pub fn indices_of(d: StringDesign, t: u64) -> Indices
-    requires { ⌜ Sound d ⌝ }
+    requires { ⌜ HasLines d ⌝ }
     ensures { λ r. ⌜ IndicesAt d t r ⌝ }
 {
     Indices {
@@ -96,7 +96,7 @@ pub fn indices_of(d: StringDesign, t: u64) -> Indices
 
 // A string's indices at the sample after t.
 pub fn next_indices(d: StringDesign, x: Indices, t: u64) -> Indices
-    requires { ⌜ Sound d ⌝ }
+    requires { ⌜ HasLines d ⌝ }
     requires { ⌜ IndicesAt d t x ⌝ }
     ensures { λ r. ⌜ IndicesAt d (t + 1) r ⌝ }
 {

@@ -1,15 +1,15 @@
-// The passes of one sample over all strings: each takes the strings' parts one after the other, and lends each string its own.
+// The passes of one sample over all tableStrings: each takes the tableStrings' parts one after the other, and lends each string its own.
 use points::Constants;
 use points::ForceSum;
 use points::HammerState;
 ghost use mathlib.Core.Path.{_≡_};
 ghost use Prim.Native.Nat.{_+_, _≤_};
 ghost use lib.ListN.{length};
-ghost use Rattle.string.specs.Table.{strings};
+ghost use Rattle.string.specs.Table.{tableStrings};
 ghost use Rattle.strings.specs.Strings.{AllFit, Indexed, cellsOf, turnedAll, forceAll, noForce, bridgeAll, bridgeForce};
 ghost use Rattle.float.specs.Float.{zero};
 
-// The indices of n strings' lines at sample t, three a string, each by a division: once for a stretch of samples.
+// The indices of n tableStrings' lines at sample t, three a string, each by a division: once for a stretch of samples.
 pub fn first_indices(
     lengths: &[usize; 160],
     coefficients: &[f64; 128],
@@ -62,9 +62,9 @@ pub fn strike_strings(
 ) -> ForceSum
     requires { ⌜ AllFit (now lengths) (now coefficients) n ⌝ }
     requires { ⌜ Indexed (now lengths) (now coefficients) (now indices) n t ⌝ }
-    requires { ⌜ cellsOf (strings (now lengths) (now coefficients) n) ≤ length (now part) ⌝ }
-    ensures { λ r. ⌜ (now (part .exit) ≡ turnedAll c h (now («damper_r» .entry)) (strings (now (lengths .entry)) (now (coefficients .entry)) n) t (now (part .entry)))
-        × (r ≡ forceAll c h (strings (now (lengths .entry)) (now (coefficients .entry)) n) t (now (part .entry)) noForce) ⌝ }
+    requires { ⌜ cellsOf (tableStrings (now lengths) (now coefficients) n) ≤ length (now part) ⌝ }
+    ensures { λ r. ⌜ (now (part .exit) ≡ turnedAll c h (now («damper_r» .entry)) (tableStrings (now (lengths .entry)) (now (coefficients .entry)) n) t (now (part .entry)))
+        × (r ≡ forceAll c h (tableStrings (now (lengths .entry)) (now (coefficients .entry)) n) t (now (part .entry)) noForce) ⌝ }
 {
     let mut at = 0usize;
     let mut sum = ForceSum {
@@ -97,10 +97,10 @@ pub fn bridge_strings(
 ) -> f64
     requires { ⌜ AllFit (now lengths) (now coefficients) n ⌝ }
     requires { ⌜ Indexed (now lengths) (now coefficients) (now indices) n t ⌝ }
-    requires { ⌜ cellsOf (strings (now lengths) (now coefficients) n) ≤ length (now part) ⌝ }
+    requires { ⌜ cellsOf (tableStrings (now lengths) (now coefficients) n) ≤ length (now part) ⌝ }
     requires { ⌜ n ≤ length (now «v_in») ⌝ }
-    ensures { λ r. ⌜ (now (part .exit) ≡ bridgeAll (now («v_b» .entry)) (now («v_in» .entry)) (strings (now (lengths .entry)) (now (coefficients .entry)) n) t (now (part .entry)))
-        × (r ≡ bridgeForce z (now («v_b» .entry)) (now («v_in» .entry)) (strings (now (lengths .entry)) (now (coefficients .entry)) n) (now (part .entry)) zero) ⌝ }
+    ensures { λ r. ⌜ (now (part .exit) ≡ bridgeAll (now («v_b» .entry)) (now («v_in» .entry)) (tableStrings (now (lengths .entry)) (now (coefficients .entry)) n) t (now (part .entry)))
+        × (r ≡ bridgeForce z (now («v_b» .entry)) (now («v_in» .entry)) (tableStrings (now (lengths .entry)) (now (coefficients .entry)) n) (now (part .entry)) zero) ⌝ }
 {
     let mut at = 0usize;
     let mut f_bridge = 0.0;

@@ -2,20 +2,20 @@
 use mathlib.Core.Path.{_≡_, refl, _∙_, ap}
 use Prim.Native.Nat.{_-_, _≤_}
 use native.Mathlib.Omega.{arith}
-use Rattle.decimator.specs.Decimate.{summed}
+use Rattle.decimator.specs.Decimate.{tapSum}
 use Rattle.decimator.proofs.Cases.{summed-more}
 use borrow.Author.Needs.{needs}
 use Rattle.decimator.proofs.filtered.Statement.{statement}
 use Rattle.decimator.proofs.filtered.Tie as tie
 
 abbrev Inv-loop : tie.InvT-loop
-Inv-loop x taps at sum₀ k₀ sum k = (k ≤ 127) × (sum ≡ summed x taps at k)
+Inv-loop x taps at sum₀ k₀ sum k = (k ≤ 127) × (sum ≡ tapSum x taps at k)
 
 abbrev μ-loop : tie.MeasureT-loop
 μ-loop x taps at sum₀ k₀ sum k = 127 - k
 
 loop-holds : tie.Need-loop-holds Inv-loop μ-loop
-unfolding summed
+unfolding tapSum
 loop-holds c = (omega arith, refl)
 
 weigh-requires : tie.Need-weigh-requires Inv-loop μ-loop
@@ -31,7 +31,7 @@ loop-again : tie.Need-loop-again Inv-loop μ-loop
 loop-again c = let l = c .before .before .loop in let a = c .before .before .before .before .before .args in (omega arith, summed-more (a .x .now) (a .taps .now) (a .at) (l .k) (l .sum) (c .weigh .result) (l .inv .1) (c .weigh .ensures))
 
 returns : tie.Need-returns Inv-loop μ-loop
-returns c = let l = c .before .loop in let a = c .before .before .before .before .args in l .inv .1 ∙ ap (summed (a .x .now) (a .taps .now) (a .at)) (omega arith)
+returns c = let l = c .before .loop in let a = c .before .before .before .before .args in l .inv .1 ∙ ap (tapSum (a .x .now) (a .taps .now) (a .at)) (omega arith)
 
 pub filtered-spec : {M : Type 1} → statement M
 filtered-spec =

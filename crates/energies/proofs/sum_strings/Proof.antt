@@ -6,7 +6,7 @@ use native.Mathlib.Omega.{arith}
 use borrow.Author.Needs.{needs}
 use lib.ListN.{getD, set}
 use lib.Ieee.{Float, nan, binary64, add}
-use Rattle.strings.specs.Walk.{At, at-start, at-fits, at-strung, at-end}
+use Rattle.strings.specs.Walk.{WalkAt, at-start, at-fits, at-strung, at-end}
 use Rattle.strings.specs.Laws.{key-fits}
 use Rattle.energies.specs.Steps.{sumsAfter, summedInto}
 use Rattle.energies.proofs.Sums.{kept, turn-kept}
@@ -14,7 +14,7 @@ use Rattle.energies.proofs.sum_strings.Statement.{statement}
 use Rattle.energies.proofs.sum_strings.Tie as tie
 
 abbrev Inv-loop : tie.InvT-loop
-Inv-loop cells sums₀ lengths coefficients n at₀ i₀ sums at i = At kept summedInto lengths coefficients n cells sums₀ cells sums at i
+Inv-loop cells sums₀ lengths coefficients n at₀ i₀ sums at i = WalkAt kept summedInto lengths coefficients n cells sums₀ cells sums at i
 
 abbrev μ-loop : tie.MeasureT-loop
 μ-loop cells sums₀ lengths coefficients n at₀ i₀ sums at i = n - i

@@ -1,5 +1,5 @@
 -- The tests below i have passed.
-use Rattle.design.specs.Ranges.{keyInRange}
+use Rattle.instrument_fields.specs.Ranges.{keyInRange}
 use Rattle.instrument.specs.Valid.{keyAt, keysInRange}
 use Prim.Native.Nat.{ℕ, _-_}
 use native.Mathlib.Omega.{arith}

@@ -2,7 +2,7 @@
 use mathlib.Core.Path.{_≡_, ap, _∙_}
 use Prim.Native.Nat.{ℕ, _≤_, _-_}
 use native.Mathlib.Omega.{arith}
-use Rattle.design.specs.Unused.{noKey}
+use Rattle.instrument_fields.specs.Unused.{noKey}
 use Rattle.counting.specs.Below.{pad}
 use Rattle.instrument.specs.File.{keysIn}
 use Rattle.instrument.proofs.Filled.{keys-start, keys-more}

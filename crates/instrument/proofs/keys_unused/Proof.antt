@@ -1,5 +1,5 @@
 -- The tests below i have passed.
-use Rattle.design.specs.Unused.{isNoKey}
+use Rattle.instrument_fields.specs.Unused.{isNoKey}
 use Rattle.instrument.specs.Valid.{keyAt, keysUnused}
 use Prim.Native.Nat.{ℕ, _-_, _+_}
 use native.Mathlib.Omega.{arith}

@@ -6,7 +6,7 @@ use borrow.Author.Tests.{le-leb, lt-leb}
 use Rattle.counting.specs.Below.{sumBelow}
 use Rattle.counting.specs.Laws.{sum-more}
 use Rattle.instrument.specs.Valid.{stringAt}
-use Rattle.instrument.specs.Work.{countedCells, cellsOf}
+use Rattle.instrument.specs.Work.{countedCells, countedPart}
 use borrow.Author.Needs.{needs}
 use Rattle.instrument.proofs.part_cells.Statement.{statement}
 use Rattle.instrument.proofs.part_cells.Tie as tie
@@ -18,7 +18,7 @@ abbrev μ-loop : tie.MeasureT-loop
 μ-loop strings s j₀ w₀ j w = s - j
 
 returns : tie.Need-returns Inv-loop μ-loop
-unfolding cellsOf
+unfolding countedPart
 returns c = (rw (lt-leb (c .before .before .args .i .«string_count») 32 (c .if1 .taken)), omega arith)
 
 loop-holds : tie.Need-loop-holds Inv-loop μ-loop
@@ -47,7 +47,7 @@ loop-again : tie.Need-loop-again Inv-loop μ-loop
 loop-again c = let more = sum-more (λ (j : ℕ). countedCells (stringAt (c .before .before .before .before .before .before .args .i .strings) j)) (c .before .before .before .loop .j) in (omega arith, omega arith, omega arith)
 
 returns-2 : tie.Need-returns-2 Inv-loop μ-loop
-unfolding cellsOf
+unfolding countedPart
 returns-2 c = let i = c .before .before .before .before .args .i in let l = c .before .loop in (rw (le-leb (i .«string_count») 32 (c .before .before .if1 .left)) (l .inv .1 ∙ ap (λ (k : ℕ). sumBelow k (λ (j : ℕ). countedCells (stringAt (i .strings) j))) (omega (arith, l .inv .0, c .loop-test .left))), omega arith)
 
 pub part-cells-spec : {M : Type 1} → statement M

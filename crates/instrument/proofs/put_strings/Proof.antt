@@ -4,13 +4,13 @@ use Prim.Native.Nat.{ℕ, _≤_, _-_}
 use native.Mathlib.Omega.{arith}
 use lib.Seq.{sets}
 use Rattle.counting.specs.Below.{tabulate}
-use Rattle.instrument.specs.File.{stringIn}
+use Rattle.instrument.specs.File.{loopIn}
 use Rattle.instrument.proofs.Filled.{put-more}
 use Rattle.instrument.proofs.put_strings.Statement.{statement}
 use Rattle.instrument.proofs.put_strings.Tie as tie
 
 abbrev Inv-loop : tie.InvT-loop
-Inv-loop b s m out₀ j₀ out j = (j ≤ s) × (out ≡ sets out₀ m (tabulate j (stringIn b)))
+Inv-loop b s m out₀ j₀ out j = (j ≤ s) × (out ≡ sets out₀ m (tabulate j (loopIn b)))
 
 abbrev μ-loop : tie.MeasureT-loop
 μ-loop b s m out₀ j₀ out j = s - j
@@ -41,7 +41,7 @@ loop-again : tie.Need-loop-again Inv-loop μ-loop
 loop-again c = let z = c .before .before .before .before .args in let l = c .before .before .loop in (omega arith, put-more (z .b .now) (z .m) (l .j) _ (l .out) _ (l .inv .1) (c .string-in .ensures))
 
 returns : tie.Need-returns Inv-loop μ-loop
-returns c = let z = c .before .before .before .args in let l = c .before .loop in l .inv .1 ∙ ap (λ (k : ℕ). sets (z .old) (z .m) (tabulate k (stringIn (z .b .now)))) (omega (arith, l .inv .0, c .loop-test .left))
+returns c = let z = c .before .before .before .args in let l = c .before .loop in l .inv .1 ∙ ap (λ (k : ℕ). sets (z .old) (z .m) (tabulate k (loopIn (z .b .now)))) (omega (arith, l .inv .0, c .loop-test .left))
 
 pub put-strings-spec : {M : Type 1} → statement M
 put-strings-spec =

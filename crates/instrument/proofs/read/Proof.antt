@@ -3,7 +3,7 @@ use mathlib.Core.Path.{sym, ap, _∙_}
 use mathlib.Core.List.{List}
 use native.Mathlib.Omega.{arith}
 use borrow.Author.Needs.{needs}
-use Rattle.design.specs.declared.KeyDesign.{KeyDesign}
+use Rattle.instrument_fields.specs.declared.KeyDesign.{KeyDesign}
 use Rattle.instrument.specs.Given.{keys-in-range}
 use Rattle.instrument.specs.Valid.{keysInRange}
 use Rattle.instrument.proofs.Order.{held, failed, Headed, Chained, Measured, Fielded, Summed, refused-1, refused-2, refused-3, refused-4, refused-5, refused-6, accepts}

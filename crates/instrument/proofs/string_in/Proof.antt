@@ -1,4 +1,4 @@
-use Rattle.instrument.specs.File.{stringIn}
+use Rattle.instrument.specs.File.{loopIn}
 use borrow.Author.Needs.{needs}
 use Rattle.instrument.proofs.string_in.Statement.{statement}
 use Rattle.instrument.proofs.string_in.Tie as tie
@@ -16,7 +16,7 @@ read-string-requires : tie.Need-read-string-requires
 read-string-requires c κs = search needs
 
 returns : tie.Need-returns
-unfolding stringIn
+unfolding loopIn
 returns c = cc
 
 pub string-in-spec : {M : Type 1} → statement M

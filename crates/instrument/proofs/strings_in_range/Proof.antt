@@ -1,5 +1,5 @@
 -- The tests below i have passed.
-use Rattle.design.specs.Ranges.{stringInRange}
+use Rattle.instrument_fields.specs.Ranges.{stringInRange}
 use Rattle.instrument.specs.Valid.{stringAt, stringsInRange}
 use Prim.Native.Nat.{ℕ, _-_}
 use native.Mathlib.Omega.{arith}

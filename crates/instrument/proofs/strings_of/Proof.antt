@@ -2,7 +2,7 @@
 use mathlib.Core.Path.{_≡_, sym, ap, _∙_}
 use Prim.Native.Nat.{ℕ, _≤_, _-_}
 use native.Mathlib.Omega.{arith}
-use Rattle.design.specs.Unused.{noString}
+use Rattle.instrument_fields.specs.Unused.{noString}
 use Rattle.counting.specs.Below.{pad}
 use Rattle.instrument.specs.File.{stringsIn}
 use Rattle.instrument.specs.Valid.{stringSum}

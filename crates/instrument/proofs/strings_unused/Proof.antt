@@ -1,5 +1,5 @@
 -- The tests below i have passed.
-use Rattle.design.specs.Unused.{isNoString}
+use Rattle.instrument_fields.specs.Unused.{isNoString}
 use Rattle.instrument.specs.Valid.{stringAt, stringsUnused}
 use Prim.Native.Nat.{ℕ, _-_, _+_}
 use native.Mathlib.Omega.{arith}

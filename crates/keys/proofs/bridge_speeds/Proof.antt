@@ -7,7 +7,7 @@ use lib.ListN.{getD, set}
 use lib.Ieee.{Float, nan}
 use Rattle.cells.specs.Numbered.{Folded, folded-start, folded-turn, folded-end}
 use Rattle.keys.specs.declared.KeyConstants.{KeyConstants}
-use Rattle.keys.specs.Keys.{keyAt, speedOf, speeds}
+use Rattle.keys.specs.Keys.{constantsAt, speedOf, speeds}
 use Rattle.keys.proofs.bridge_speeds.Statement.{statement}
 use Rattle.keys.proofs.bridge_speeds.Tie as tie
 
@@ -15,13 +15,13 @@ abbrev turn : Float → Float → ℕ → KeyConstants → List Float → List F
 turn yz total k key a = set a k (speedOf yz total key (getD a k nan))
 
 abbrev Inv-loop : tie.InvT-loop
-Inv-loop table yz total sums₀ n k₀ sums k = Folded (keyAt table) (turn yz total) n sums₀ sums k
+Inv-loop table yz total sums₀ n k₀ sums k = Folded (constantsAt table) (turn yz total) n sums₀ sums k
 
 abbrev μ-loop : tie.MeasureT-loop
 μ-loop table yz total sums₀ n k₀ sums k = n - k
 
 loop-holds : tie.Need-loop-holds Inv-loop μ-loop
-loop-holds c = let at = c .args in folded-start (keyAt (at .table .now)) (turn (at .yz) (at .total)) (at .n) (at .sums .now)
+loop-holds c = let at = c .args in folded-start (constantsAt (at .table .now)) (turn (at .yz) (at .total)) (at .n) (at .sums .now)
 
 key-at-requires : tie.Need-key-at-requires Inv-loop μ-loop
 key-at-requires c κs = omega arith
@@ -51,7 +51,7 @@ loop-again : tie.Need-loop-again Inv-loop μ-loop
 loop-again c =
     let here = c .before .before .before .before .loop in
     let at = c .before .before .before .before .before .args in
-    folded-turn (keyAt (at .table .now)) (turn (at .yz) (at .total)) (at .n) (at .sums .now) (here .sums) _ (here .k) (here .inv) (c .before .before .before .loop-test .taken)
+    folded-turn (constantsAt (at .table .now)) (turn (at .yz) (at .total)) (at .n) (at .sums .now) (here .sums) _ (here .k) (here .inv) (c .before .before .before .loop-test .taken)
     (ap (λ (x : Float). set (here .sums) (here .k) x) (c .bridge-speed .ensures ∙ ap (λ (key : KeyConstants). speedOf (at .yz) (at .total) key (getD (here .sums) (here .k) nan)) (c .before .before .key-at .ensures)))
 
 returns : tie.Need-returns Inv-loop μ-loop
@@ -59,7 +59,7 @@ unfolding speeds
 returns c =
     let here = c .before .loop in
     let at = c .before .before .args in
-    folded-end (keyAt (at .table .now)) (turn (at .yz) (at .total)) (at .n) (at .sums .now) (here .sums) (here .k) (here .inv) (c .loop-test .left)
+    folded-end (constantsAt (at .table .now)) (turn (at .yz) (at .total)) (at .n) (at .sums .now) (here .sums) (here .k) (here .inv) (c .loop-test .left)
 
 pub bridge-speeds-spec : {M : Type 1} → statement M
 bridge-speeds-spec =

@@ -1,6 +1,6 @@
 -- `keys::key_at` meets its contract. Assumes nothing.
 use mathlib.Core.Path.{refl}
-use Rattle.keys.specs.Keys.{keyAt}
+use Rattle.keys.specs.Keys.{constantsAt}
 use borrow.Author.Needs.{needs}
 use Rattle.keys.proofs.key_at.Statement.{statement}
 use Rattle.keys.proofs.key_at.Tie as tie
@@ -42,7 +42,7 @@ element-copy-out-t22 : tie.Need-element-copy-out-t22
 element-copy-out-t22 c = search needs
 
 returns : tie.Need-returns
-unfolding keyAt
+unfolding constantsAt
 returns c = refl
 
 pub key-at-spec : {M : Type 1} → statement M

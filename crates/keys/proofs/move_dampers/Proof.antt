@@ -8,7 +8,7 @@ use lib.ListN.{getD, set}
 use lib.Ieee.{Float, nan}
 use Rattle.cells.specs.Numbered.{Folded, folded-start, folded-turn, folded-end}
 use Rattle.keys.specs.declared.KeyConstants.{KeyConstants}
-use Rattle.keys.specs.Keys.{keyAt, dampedOf, dampers}
+use Rattle.keys.specs.Keys.{constantsAt, dampedOf, dampers}
 use Rattle.keys.proofs.move_dampers.Statement.{statement}
 use Rattle.keys.proofs.move_dampers.Tie as tie
 
@@ -16,13 +16,13 @@ abbrev turn : List Bool → ℕ → KeyConstants → List Float → List Float
 turn down k key r = set r k (dampedOf key (getD down k false) (getD r k nan))
 
 abbrev Inv-loop : tie.InvT-loop
-Inv-loop table down damper-r₀ n k₀ damper-r k = Folded (keyAt table) (turn down) n damper-r₀ damper-r k
+Inv-loop table down damper-r₀ n k₀ damper-r k = Folded (constantsAt table) (turn down) n damper-r₀ damper-r k
 
 abbrev μ-loop : tie.MeasureT-loop
 μ-loop table down damper-r₀ n k₀ damper-r k = n - k
 
 loop-holds : tie.Need-loop-holds Inv-loop μ-loop
-loop-holds c = let at = c .args in folded-start (keyAt (at .table .now)) (turn (at .down .now)) (at .n) (at .damper-r .now)
+loop-holds c = let at = c .args in folded-start (constantsAt (at .table .now)) (turn (at .down .now)) (at .n) (at .damper-r .now)
 
 key-at-requires : tie.Need-key-at-requires Inv-loop μ-loop
 key-at-requires c κs = omega arith
@@ -55,7 +55,7 @@ loop-again : tie.Need-loop-again Inv-loop μ-loop
 loop-again c =
     let here = c .before .before .before .before .before .loop in
     let at = c .before .before .before .before .before .before .args in
-    folded-turn (keyAt (at .table .now)) (turn (at .down .now)) (at .n) (at .damper-r .now) (here .damper-r) _ (here .k) (here .inv) (c .before .before .before .before .loop-test .taken)
+    folded-turn (constantsAt (at .table .now)) (turn (at .down .now)) (at .n) (at .damper-r .now) (here .damper-r) _ (here .k) (here .inv) (c .before .before .before .before .loop-test .taken)
     (ap (λ (x : Float). set (here .damper-r) (here .k) x)
     (c .damper-after .ensures ∙ ap (λ (key : KeyConstants). dampedOf key (getD (at .down .now) (here .k) false) (getD (here .damper-r) (here .k) nan)) (c .before .before .before .key-at .ensures)))
 
@@ -64,7 +64,7 @@ unfolding dampers
 returns c =
     let here = c .before .loop in
     let at = c .before .before .args in
-    folded-end (keyAt (at .table .now)) (turn (at .down .now)) (at .n) (at .damper-r .now) (here .damper-r) (here .k) (here .inv) (c .loop-test .left)
+    folded-end (constantsAt (at .table .now)) (turn (at .down .now)) (at .n) (at .damper-r .now) (here .damper-r) (here .k) (here .inv) (c .loop-test .left)
 
 pub move-dampers-spec : {M : Type 1} → statement M
 move-dampers-spec =

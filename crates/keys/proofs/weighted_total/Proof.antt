@@ -8,7 +8,7 @@ use lib.ListN.{getD}
 use lib.Ieee.{Float, nan, binary64, add, mul}
 use Rattle.cells.specs.Numbered.{Folded, folded-start, folded-turn, folded-end}
 use Rattle.keys.specs.declared.KeyConstants.{KeyConstants}
-use Rattle.keys.specs.Keys.{keyAt, weightedTotal}
+use Rattle.keys.specs.Keys.{constantsAt, weightedTotal}
 use Rattle.keys.proofs.weighted_total.Statement.{statement}
 use Rattle.keys.proofs.weighted_total.Tie as tie
 
@@ -16,13 +16,13 @@ abbrev turn : List Float → ℕ → KeyConstants → Float → Float
 turn sums k key x = add binary64 x (mul binary64 (key .weight) (getD sums k nan))
 
 abbrev Inv-loop : tie.InvT-loop
-Inv-loop table sums n total₀ k₀ total k = Folded (keyAt table) (turn sums) n +0 total k
+Inv-loop table sums n total₀ k₀ total k = Folded (constantsAt table) (turn sums) n +0 total k
 
 abbrev μ-loop : tie.MeasureT-loop
 μ-loop table sums n total₀ k₀ total k = n - k
 
 loop-holds : tie.Need-loop-holds Inv-loop μ-loop
-loop-holds c = let at = c .args in folded-start (keyAt (at .table .now)) (turn (at .sums .now)) (at .n) +0
+loop-holds c = let at = c .args in folded-start (constantsAt (at .table .now)) (turn (at .sums .now)) (at .n) +0
 
 key-at-requires : tie.Need-key-at-requires Inv-loop μ-loop
 key-at-requires c κs = omega arith
@@ -43,7 +43,7 @@ loop-again : tie.Need-loop-again Inv-loop μ-loop
 loop-again c =
     let here = c .before .before .before .before .loop in
     let at = c .before .before .before .before .before .args in
-    folded-turn (keyAt (at .table .now)) (turn (at .sums .now)) (at .n) +0 (here .total) _ (here .k) (here .inv) (c .before .before .before .loop-test .taken)
+    folded-turn (constantsAt (at .table .now)) (turn (at .sums .now)) (at .n) +0 (here .total) _ (here .k) (here .inv) (c .before .before .before .loop-test .taken)
     (ap (λ (key : KeyConstants). turn (at .sums .now) (here .k) key (here .total)) (c .before .before .key-at .ensures))
 
 returns : tie.Need-returns Inv-loop μ-loop
@@ -51,7 +51,7 @@ unfolding weightedTotal
 returns c =
     let here = c .before .loop in
     let at = c .before .before .args in
-    folded-end (keyAt (at .table .now)) (turn (at .sums .now)) (at .n) +0 (here .total) (here .k) (here .inv) (c .loop-test .left)
+    folded-end (constantsAt (at .table .now)) (turn (at .sums .now)) (at .n) +0 (here .total) (here .k) (here .inv) (c .loop-test .left)
 
 pub weighted-total-spec : {M : Type 1} → statement M
 weighted-total-spec =

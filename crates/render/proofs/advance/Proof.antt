@@ -7,7 +7,7 @@ use lib.ListN.{getD}
 use Rattle.score.specs.Events.{State}
 use Rattle.score.specs.Score.{eventsOf, eventsAt}
 use Rattle.score.specs.Laws.{apply-all-count, none-at}
-use Rattle.string.specs.Table.{strings}
+use Rattle.string.specs.Table.{tableStrings}
 use Rattle.render.proofs.Runs.{loaded-strings, loaded-model, loaded-ready, loaded-playable, stretch-went}
 use borrow.Author.Needs.{needs}
 use Rattle.render.proofs.advance.Statement.{statement}
@@ -41,7 +41,7 @@ play-on-requires c κs =
     let due = start .pre .1 .1 .1 in
     let stop = c .before .before .before .before .before .stop-at .ensures in
     let acted = c .before .before .before .before .before .before .before .before .before .before .apply-events in
-    let ds = strings (at .lengths .now) (at .coefficients .now) (c .before .before .before .before .before .before .before .before .before .before .before .before .before .setup-of .result .strings) in
+    let ds = tableStrings (at .lengths .now) (at .coefficients .now) (c .before .before .before .before .before .before .before .before .before .before .before .before .before .setup-of .result .strings) in
     let count = ap (λ (x : State). x .piano .motion .«contact_samples») (acted .ensures)
     ∙ apply-all-count (at .instrument) ds (eventsAt (eventsOf (at .score)) (at .t + at .run .done)) (record { piano = at .run .piano; cells = at .part .now }) in (
       loaded-ready (start .args .instrument) (c .before .before .before .before .before .before .before .before .before .before .before .before .before .setup-of .result) (start .args .table .now) (start .args .lengths .now) (start .args .coefficients .now) (start .args .part .now) (start .args .scratch .now) (start .pre .0) (c .before .before .before .before .before .before .before .before .before .before .before .before .before .setup-of .ensures) (acted .last .0) (at .scratch .now) (acted .kept .0) refl,

@@ -8,7 +8,7 @@ use lib.Ieee.{Float}
 use Rattle.score.specs.declared.Piano.{Piano}
 use Rattle.score.specs.Events.{State}
 use Rattle.score.specs.Score.{eventsOf}
-use Rattle.render.specs.Render.{Went, Due, nextOf, soundOf, forceOf}
+use Rattle.render.specs.Render.{Went, InRange, stateNext, sampleAt, pushedAt}
 use Rattle.render.proofs.Runs.{went-start, went-then, went-lengths, went-rendered}
 use Rattle.render.proofs.render.Statement.{statement}
 use Rattle.render.proofs.render.Tie as tie
@@ -18,9 +18,9 @@ stateOf p w = record { piano = p; cells = w }
 
 abbrev Inv-loop : tie.InvT-loop
 Inv-loop part₀ scratch₀ out₀ trace₀ instrument score t m table lengths coefficients run₀ part scratch out trace run =
-    Went (nextOf instrument (eventsOf score)) (soundOf instrument (eventsOf score)) (forceOf instrument (eventsOf score)) t (stateOf (run₀ .piano) part₀) out₀ trace₀ 0 0
+    Went (stateNext instrument (eventsOf score)) (sampleAt instrument (eventsOf score)) (pushedAt instrument (eventsOf score)) t (stateOf (run₀ .piano) part₀) out₀ trace₀ 0 0
     (stateOf (run .piano) part) out trace (run .done) (run .pushed)
-    × Due run t m × (length part ≡ length part₀) × (length scratch ≡ length scratch₀)
+    × InRange run t m × (length part ≡ length part₀) × (length scratch ≡ length scratch₀)
 
 abbrev μ-loop : tie.MeasureT-loop
 μ-loop part₀ scratch₀ out₀ trace₀ instrument score t m table lengths coefficients run₀ part scratch out trace run = m - run .done

@@ -4,7 +4,7 @@ use Prim.Native.Nat.{ℕ, _+_, _-_, _*_, _≤_}
 use native.Mathlib.Omega.{arith}
 use Rattle.string.specs.Table.{designAt}
 use Rattle.cells.specs.Together.{moved-none}
-use Rattle.rows.specs.Rows.{startOf, Finished}
+use Rattle.rows.specs.Rows.{rowStart, Finished}
 use Rattle.rows.specs.Laws.{string-fits, on-length, on-none, finished-turn}
 use Rattle.rows.proofs.finish_strings.Statement.{statement}
 use Rattle.rows.proofs.finish_strings.Tie as tie
@@ -31,7 +31,7 @@ loop-holds c =
       record {
         cells = on-none f (args .i) _ (args .part .now);
         outputs = moved-none (λ j. j) (λ j. 1) (λ j. refl) (args .i) _ (args .v-in .now);
-        end = start .pre .1 .1 .0 ∙ ap (λ (k : ℕ). startOf f k) none;
+        end = start .pre .1 .1 .0 ∙ ap (λ (k : ℕ). rowStart f k) none;
       },
     )
 

@@ -6,14 +6,14 @@ use lib.ListN.{length, length-set}
 use Rattle.string.specs.String.{sizeOf}
 use Rattle.string.specs.Table.{designAt}
 use Rattle.string.specs.Steps.{atRow}
-use Rattle.rows.specs.Rows.{Laid, startOf}
+use Rattle.rows.specs.Rows.{Laid, rowStart}
 use Rattle.rows.specs.Laws.{string-fits, start-after, laid-none, laid-turn}
 use Rattle.rows.proofs.rows_of.Statement.{statement}
 use Rattle.rows.proofs.rows_of.Tie as tie
 
 abbrev Inv-loop : tie.InvT-loop
 Inv-loop lengths coefficients first i m starts₀ ap-a₀ stages₀ at₀ l₀ starts ap-a stages at l =
-    (l ≤ m) × (at ≡ startOf (designAt lengths coefficients) (i + l)) × Laid (designAt lengths coefficients) i l (record { starts = starts; «ap_a» = ap-a; stages = stages })
+    (l ≤ m) × (at ≡ rowStart (designAt lengths coefficients) (i + l)) × Laid (designAt lengths coefficients) i l (record { starts = starts; «ap_a» = ap-a; stages = stages })
     × (length starts ≡ 4) × (length ap-a ≡ 4)
 
 abbrev μ-loop : tie.MeasureT-loop
@@ -24,7 +24,7 @@ loop-holds c =
     let args = c .args in
     let f = designAt (args .lengths .now) (args .coefficients .now) in
     let none : args .i ≡ args .i + 0 = omega arith in
-    (omega arith, c .pre .1 .0 ∙ ap (λ (k : ℕ). startOf f k) none, laid-none f (args .i) _ (omega arith), refl, refl)
+    (omega arith, c .pre .1 .0 ∙ ap (λ (k : ℕ). rowStart f k) none, laid-none f (args .i) _ (omega arith), refl, refl)
 
 add-design-at : tie.Need-add-design-at Inv-loop μ-loop
 add-design-at c = omega arith

@@ -5,14 +5,14 @@ use native.Mathlib.Omega.{arith}
 use Rattle.string.specs.String.{sizeOf}
 use Rattle.string.specs.Table.{designAt}
 use Rattle.strings.specs.Laws.{index-fits}
-use Rattle.rows.specs.Rows.{startOf, Started}
+use Rattle.rows.specs.Rows.{rowStart, Started}
 use Rattle.rows.specs.Laws.{string-fits, start-after, on-length, on-none, started-turn}
 use Rattle.rows.proofs.start_strings.Statement.{statement}
 use Rattle.rows.proofs.start_strings.Tie as tie
 
 abbrev Inv-loop : tie.InvT-loop
 Inv-loop part₀ lengths coefficients indices first i m t v₀ at₀ l₀ part v at l =
-    (l ≤ m) × (at ≡ startOf (designAt lengths coefficients) (i + l)) × Started (designAt lengths coefficients) i l t part₀ part v
+    (l ≤ m) × (at ≡ rowStart (designAt lengths coefficients) (i + l)) × Started (designAt lengths coefficients) i l t part₀ part v
 
 abbrev μ-loop : tie.MeasureT-loop
 μ-loop part₀ lengths coefficients indices first i m t v₀ at₀ l₀ part v at l = m - l
@@ -24,7 +24,7 @@ loop-holds c =
     let f = designAt (args .lengths .now) (args .coefficients .now) in
     let none : args .i ≡ args .i + 0 = omega arith in (
       omega arith,
-      start .pre .1 .1 ∙ ap (λ (k : ℕ). startOf f k) none,
+      start .pre .1 .1 ∙ ap (λ (k : ℕ). rowStart f k) none,
       record { long = refl; cells = on-none f (args .i) _ (args .part .now); values = λ l h. let z : ⊥ = omega arith in absurd z },
     )
 

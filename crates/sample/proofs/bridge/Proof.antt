@@ -1,5 +1,5 @@
--- `sample::bridge` meets its contract: sums, total, speeds, and the strings' ends. Assumes nothing.
-use Rattle.string.specs.Table.{strings}
+-- `sample::bridge` meets its contract: sums, total, speeds, and the tableStrings' ends. Assumes nothing.
+use Rattle.string.specs.Table.{tableStrings}
 use Rattle.keys.specs.Keys.{bridgeSpeeds}
 use borrow.Author.Needs.{needs}
 use Rattle.sample.proofs.bridge.Statement.{statement}
@@ -27,7 +27,7 @@ returns : tie.Need-returns
 unfolding bridgeSpeeds
 returns c =
     let at = c .before .before .before .before .before .before .before .before .before .before .before .before .before .before .args in
-    let ds = strings (at .lengths .now) (at .coefficients .now) (at .setup .strings) in
+    let ds = tableStrings (at .lengths .now) (at .coefficients .now) (at .setup .strings) in
     let sums = c .before .before .before .before .before .before .before .before .before .sum-keys .ensures in
     let total = c .before .before .before .before .before .before .before .weighted-total .ensures in
     let v-b = c .before .before .before .before .before .bridge-speeds .ensures in

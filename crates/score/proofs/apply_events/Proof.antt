@@ -6,7 +6,7 @@ use lib.ListN.{length, getD, length-take, length-map}
 use lib.Seq.{getD-take}
 use mathlib.Core.Logic.{⊎-elim}
 use Rattle.score.proofs.TimedEvent as TimedEventType
-use Rattle.string.specs.Table.{strings}
+use Rattle.string.specs.Table.{tableStrings}
 use Rattle.score.specs.Events.{State}
 use Rattle.score.specs.Score.{eventsOf, noEvent}
 use Rattle.score.proofs.Loops.{Acted, acted-now, acted-other, acted-end}
@@ -14,7 +14,7 @@ use Rattle.score.proofs.apply_events.Statement.{statement}
 use Rattle.score.proofs.apply_events.Tie as tie
 
 abbrev Inv-loop : tie.InvT-loop
-Inv-loop part₀ lengths coefficients n instrument t score p₀ i₀ i-end part p i = (i ≤ score .count) × (length part ≡ length part₀) × Acted instrument (strings lengths coefficients n) (eventsOf score) t (record { piano = p₀; cells = part₀ }) (record { piano = p; cells = part }) i
+Inv-loop part₀ lengths coefficients n instrument t score p₀ i₀ i-end part p i = (i ≤ score .count) × (length part ≡ length part₀) × Acted instrument (tableStrings lengths coefficients n) (eventsOf score) t (record { piano = p₀; cells = part₀ }) (record { piano = p; cells = part }) i
 
 abbrev μ-loop : tie.MeasureT-loop
 μ-loop part₀ lengths coefficients n instrument t score p₀ i₀ i-end part p i = score .count - i
@@ -45,7 +45,7 @@ loop-again c =
     let here = c .before .before .before .before .loop in
     let below : here .i < at .t6 .count = c .before .before .before .loop-test .taken in
     let es = eventsOf (at .t6) in
-    let ds = strings (at .lengths .now) (at .coefficients .now) (at .n) in
+    let ds = tableStrings (at .lengths .now) (at .coefficients .now) (at .n) in
     let s₀ : State = record { piano = at .piano; cells = at .part .now } in
     let s : State = record { piano = here .p; cells = here .part } in
     let e = getD (at .t6 .events) (here .i) noEvent in
@@ -69,7 +69,7 @@ returns : tie.Need-returns Inv-loop μ-loop
 returns c =
     let at = c .before .before .before .args in
     let here = c .before .loop in
-    acted-end (at .instrument) (strings (at .lengths .now) (at .coefficients .now) (at .n)) (eventsOf (at .t6)) (at .t) (record { piano = at .piano; cells = at .part .now }) (record { piano = here .p; cells = here .part }) (here .i) (here .inv .2)
+    acted-end (at .instrument) (tableStrings (at .lengths .now) (at .coefficients .now) (at .n)) (eventsOf (at .t6)) (at .t) (record { piano = at .piano; cells = at .part .now }) (record { piano = here .p; cells = here .part }) (here .i) (here .inv .2)
     (simp length-take (omega (arith, c .loop-test .left)))
 
 pub apply-events-spec : {M : Type 1} → statement M

@@ -4,14 +4,14 @@ use Prim.Native.Nat.{_+_, _-_}
 use native.Mathlib.Omega.{arith}
 use borrow.Author.Needs.{needs}
 use lib.ListN.{length-take, length-drop}
-use Rattle.strings.specs.Walk.{At, at-start, at-fits, at-turn, at-end}
+use Rattle.strings.specs.Walk.{WalkAt, at-start, at-fits, at-turn, at-end}
 use Rattle.score.specs.Events.{cleared}
 use Rattle.score.specs.Laws.{cleared-length}
 use Rattle.score.proofs.clear_strings.Statement.{statement}
 use Rattle.score.proofs.clear_strings.Tie as tie
 
 abbrev Inv-loop : tie.InvT-loop
-Inv-loop part₀ lengths coefficients n k at₀ i₀ part at i = At (λ j d p. cleared k d p) (λ j d p (a : Unit {0}). a) lengths coefficients n part₀ tt part tt at i
+Inv-loop part₀ lengths coefficients n k at₀ i₀ part at i = WalkAt (λ j d p. cleared k d p) (λ j d p (a : Unit {0}). a) lengths coefficients n part₀ tt part tt at i
 
 abbrev μ-loop : tie.MeasureT-loop
 μ-loop part₀ lengths coefficients n k at₀ i₀ part at i = n - i

@@ -1,0 +1,11 @@
+use mathlib.Core.Path.{refl}
+use lib.Ieee.{ofBits, ofInt}
+use Rattle.instrument_fields.proofs.no_hammer.Statement.{statement}
+use Rattle.instrument_fields.proofs.no_hammer.Tie as tie
+
+returns : tie.Need-returns
+unfolding ofBits ofInt
+returns c = refl
+
+pub no-hammer-spec : {M : Type 1} → statement M
+no-hammer-spec = tie.close (tie.spec returns)

@@ -1,0 +1,11 @@
+use mathlib.Core.Path.{_≡_, refl, sym, _∙_, ap}
+use Rattle.session_cues.specs.Cues.{contactsOf}
+use Rattle.session_cues.proofs.contacts.Statement.{statement}
+use Rattle.session_cues.proofs.contacts.Tie as tie
+
+returns : tie.Need-returns
+unfolding contactsOf
+returns c = refl
+
+pub contacts-spec : {M : Type 1} → statement M
+contacts-spec = tie.close (tie.spec returns)

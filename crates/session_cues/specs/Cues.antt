@@ -1,0 +1,63 @@
+-- Document 01, "The session": the kept cues, as four slots in order. Refusal 7: "a session with .. a cue above the end of 11, .. over four cues or two equal, a hammer on a key not
+-- there, a contact count above its position". Over four cannot be written down here. Definitions only: assumes nothing.
+use mathlib.Core.Bool.{Bool, true, false, cond, not, _&&_, _||_}
+use mathlib.Core.List.{List, [], _∷_}
+use Prim.Native.Nat.{ℕ, suc}
+use lib.Dec.{eqb, leb, ltb}
+use Rattle.points.specs.declared.HammerState.{HammerState}
+use Rattle.points.specs.declared.HammerState.the-variants.{Resting, Flying}
+use Rattle.score.specs.declared.Piano.{Piano}
+use Rattle.positions.specs.Positions.{end, isIn}
+use Rattle.session_cues.specs.declared.Cue.{Cue}
+
+-- the positions that are kept
+unfoldable pub keptOf : List Cue → List ℕ
+keptOf [] = []
+keptOf (c ∷ cs) = cond (c .kept) (c .position ∷ keptOf cs) (keptOf cs)
+
+-- the first slot that keeps a cue at x, and the first that keeps none; else the number of slots
+abbrev pub standsAt : ℕ → Cue → Bool
+standsAt x c = c .kept && eqb x (c .position)
+
+unfoldable pub slotAt : ℕ → List Cue → ℕ
+slotAt x [] = 0
+slotAt x (c ∷ cs) = cond (standsAt x c) 0 (suc (slotAt x cs))
+
+unfoldable pub freeSlot : List Cue → ℕ
+freeSlot [] = 0
+freeSlot (c ∷ cs) = cond (c .kept) (suc (freeSlot cs)) 0
+
+-- "Both edits drop cues above q": what was held for it stays in the slot, and decides nothing
+abbrev pub dropAbove : ℕ → Cue → Cue
+dropAbove q c = record { kept = c .kept && leb (c .position) q; position = c .position; piano = c .piano }
+
+-- ---- refusal 7
+
+-- the count that titles follow
+unfoldable pub contactsOf : Piano → ℕ
+contactsOf p = p .motion .«contact_samples»
+
+-- whether the hammer, if one flies, is on one of so many keys
+unfoldable pub hammerOn : ℕ → HammerState → Bool
+hammerOn keys Resting = true
+hammerOn keys (Flying k y v) = ltb k keys
+
+-- what may be held for a position x, of an instrument with so many keys; its floats may be anything
+unfoldable pub soundPiano : ℕ → ℕ → Piano → Bool
+soundPiano keys x p = leb (contactsOf p) x && hammerOn keys (p .motion .hammer)
+
+unfoldable pub soundCue : ℕ → Cue → Bool
+soundCue keys c = not (c .kept) || (leb (c .position) end && soundPiano keys (c .position) (c .piano))
+
+-- each is sound, and none is kept again in a later slot
+unfoldable pub soundCues : ℕ → List Cue → Bool
+soundCues keys [] = true
+soundCues keys (c ∷ cs) = soundCue keys c && not (c .kept && isIn (c .position) (keptOf cs)) && soundCues keys cs
+
+-- ---- one slot's part in a search and in a count
+
+abbrev pub nearer : ℕ → ℕ → Cue → ℕ
+nearer p best c = cond (c .kept && leb (c .position) p && ltb best (c .position)) (c .position) best
+
+abbrev pub lostOf : ℕ → Cue → ℕ
+lostOf q c = cond (c .kept && ltb q (c .position)) 1 0

@@ -1,0 +1,122 @@
+-- DEMAND 3, "The piano behind a cue": for every list of play, cue, go, insert and remove calls, refused ones included, from a session just opened. The statement is `demand-3`, at the
+-- end; its words are in Runs.antt. Assumes nothing.
+use mathlib.Core.Path.{_≡_, refl, sym, _∙_, ap}
+use mathlib.Core.Bool.{true, false}
+use mathlib.Core.List.{List, [], _∷_}
+use Prim.Native.Nat.{ℕ, zero, suc, _+_, _*_, _<_, _≤_}
+use native.Mathlib.Omega.{arith}
+use lib.Ieee.{Float}
+use lib.ListN.{length, take, drop, getD}
+use Rattle.instrument.specs.declared.Instrument.{Instrument}
+use Rattle.instrument.specs.Valid.{valid}
+use Rattle.instrument.specs.Work.{partCells}
+use Rattle.score.specs.declared.Piano.{Piano}
+use Rattle.render.specs.Render.{silentPiano, silence, renderState}
+use Rattle.positions.specs.Positions.{count}
+use Rattle.positions.specs.Laws.{true-or-false}
+use Rattle.machine.specs.Machine.{Machine, Call, Reply, opened, does, final, replies}
+use Rattle.machine.specs.Laws.{Allowed, sound-opened, allowed-does}
+use Rattle.session_cues.specs.Cues.{keptOf}
+use Rattle.session_record.specs.declared.Session.{Session}
+use Rattle.session_record.specs.Record.{openRefusal}
+use Rattle.session_record.specs.Laws.{open-passed}
+use Rattle.session.specs.declared.Answer.the-variants.{Opened}
+use Rattle.session.specs.declared.Outcome.{Outcome}
+use Rattle.session.specs.Calls.{emptyCue, freshSession, OpenMeets}
+use Rattle.session.specs.Laws.{render-zero, silent-length, silent-piano}
+use Rattle.session_theorem.specs.Runs.{Runs, Follows, Claim}
+use Rattle.session_theorem.specs.Memory.{front-now, front-length}
+use Rattle.session_theorem.specs.Stands.{Stands}
+use Rattle.session_theorem.specs.Steps.{play-step, cue-step, go-step, insert-step, remove-step}
+
+-- ---- the list as a whole
+
+runs-follow : (i : Instrument) {s s″ : Session} {work work″ : List Float} {cs : List Call} {rs : List Reply} → Runs i s work cs rs s″ work″ → (p : Machine) → Stands i s work p
+    → (rs ≡ replies i p cs) × Stands i s″ work″ (final i p cs)
+unfolding replies final
+runs-follow i Runs.done p g = (refl, g)
+runs-follow i (Runs.play {s = s} {work = work} {work′ = work′} {out = out} {out′ = out′} {trace = trace} {trace′ = trace′} {scratch = scratch} {r = r} h rest) p g =
+    let t = play-step i s work p g scratch out trace work′ out′ trace′ r h in
+    let u = runs-follow i rest _ (t .0) in
+    (cc (t .1, u .0), u .1)
+runs-follow i (Runs.cue {s = s} {work = work} {work′ = work′} {r = r} h rest) p g =
+    let t = cue-step i s work p g work′ r h in
+    let u = runs-follow i rest _ (t .0) in
+    (cc (t .1, u .0), u .1)
+runs-follow i (Runs.go {s = s} {work = work} {work′ = work′} {scratch = scratch} {p = q} {r = r} h rest) p g =
+    let t = go-step i s work p g scratch q work′ r h in
+    let u = runs-follow i rest _ (t .0) in
+    (cc (t .1, u .0), u .1)
+runs-follow i (Runs.insert {s = s} {work = work} {work′ = work′} {e = e} {r = r} h rest) p g =
+    let t = insert-step i s work p g e work′ r h in
+    let u = runs-follow i rest _ (t .0) in
+    (cc (t .1, u .0), u .1)
+runs-follow i (Runs.remove {s = s} {work = work} {work′ = work′} {index = index} {r = r} h rest) p g =
+    let t = remove-step i s work p g index work′ r h in
+    let u = runs-follow i rest _ (t .0) in
+    (cc (t .1, u .0), u .1)
+
+-- ---- the machine's replies
+
+replies-allowed : (i : Instrument) (p : Machine) (cs : List Call) (k : ℕ) → k < length (replies i p cs) → Allowed (getD (replies i p cs) k Reply.cued)
+unfolding replies
+replies-allowed i p [] k h = absurd (omega arith)
+replies-allowed i p (c ∷ cs) zero h = allowed-does i p c
+replies-allowed i p (c ∷ cs) (suc k) h = replies-allowed i (does i p c .0) cs k (omega arith)
+
+-- ---- a session just opened
+
+fresh-keeps : (p : Piano) → keptOf (freshSession p .cues) ≡ []
+unfolding keptOf
+fresh-keeps p = refl
+
+fresh-empty : (p : Piano) (j : ℕ) → j < 4 → getD (freshSession p .cues) j (emptyCue p) .kept ≡ false
+fresh-empty p zero h = refl
+fresh-empty p (suc zero) h = refl
+fresh-empty p (suc (suc zero)) h = refl
+fresh-empty p (suc (suc (suc zero))) h = refl
+fresh-empty p (suc (suc (suc (suc j)))) h = absurd (omega arith)
+
+-- only an open that is not refused answers so
+not-refused : (i : Instrument) (work work′ : List Float) (r : Outcome) → OpenMeets i work r work′ → r .answer ≡ Opened → (n : ℕ) → openRefusal i (length work) ≡ n → n ≡ 0
+not-refused i work work′ r h e zero k = refl
+not-refused i work work′ r h e (suc n) k =
+    let x = ap (λ q. q .answer) (h .refuses (λ z. omega arith) .0) in
+    absurd (let z : _≡_ {A = ℕ} 0 1 = cc (sym e ∙ x) in omega arith)
+
+opened-stands : (i : Instrument) (work work′ : List Float) (r : Outcome) → OpenMeets i work r work′ → r .answer ≡ Opened → Stands i (r .session) work′ opened
+unfolding count
+opened-stands i work work′ r h e =
+    let z : openRefusal i (length work) ≡ 0 = not-refused i work work′ r h e (openRefusal i (length work)) refl in
+    let fine = open-passed i (length work) z in
+    let a = h .accepts z in
+    let here : r .session ≡ freshSession silentPiano = ap (λ q. q .session) (a .0) in
+    record {
+      follows = record {
+        score = rw here refl;
+        position = rw here refl;
+        cues = λ f. rw here (ap (count f) (fresh-keeps silentPiano));
+        now = rw (here, front-now (partCells i) (silence i .cells) work work′ (a .1) (silent-length i (fine .0)) (fine .1)) (ap (λ q. record { piano = q; cells = silence i .cells }) (silent-piano i) ∙ sym (render-zero i []));
+        held = λ j l k. true-or-false _ (rw here at k) (fresh-empty silentPiano j l);
+      };
+      machine = sound-opened;
+      instrument = fine .0;
+      few = rw here (omega arith);
+      long = rw here refl;
+      four = rw here refl;
+      room = omega (arith, front-length (partCells i) (silence i .cells) work work′ (a .1) (silent-length i (fine .0)) (fine .1), fine .1);
+    }
+
+-- ---- the theorem
+
+-- For every instrument and work memory with which open is accepted, and for every list of calls run from there, each by its function's contract: the replies are the plain
+-- machine's, the program's session and memory are the plain machine's, and every refusal is from 9 to 16.
+pub demand-3 : (i : Instrument) (work work′ : List Float) (r : Outcome) → OpenMeets i work r work′ → r .answer ≡ Opened
+    → {cs : List Call} {rs : List Reply} {s : Session} {work″ : List Float} → Runs i (r .session) work′ cs rs s work″ → Claim i cs rs s work″
+demand-3 i work work′ r h e {cs} {rs} t =
+    let u = runs-follow i t opened (opened-stands i work work′ r h e) in
+    record {
+      answers = u .0;
+      after = u .1 .follows;
+      allowed = rw (u .0) (replies-allowed i opened cs);
+    }

@@ -1,0 +1,381 @@
+-- One call: the program that follows the machine follows it after the call too, and gives the machine's reply. Assumes nothing.
+use mathlib.Core.Path.{_≡_, refl, sym, _∙_, ap}
+use mathlib.Core.Bool.{Bool, true, false, cond, not, _&&_}
+use mathlib.Core.Logic.{_⊎_, inl, inr, ⊎-elim}
+use mathlib.Core.List.{List, [], _∷_, _++_, map}
+use Prim.Native.Nat.{ℕ, zero, suc, _+_, _-_, _*_, _<_, _≤_}
+use native.Mathlib.Omega.{arith}
+use native.Mathlib.Nat.{add-sub-of-le}
+use lib.Dec.{eqb, leb, ltb}
+use borrow.Author.Tests.{eqb-true, eqb-false, leb-true, ltb-false, ltb-true, lt-ltb}
+use lib.Ieee.{Float}
+use lib.ListN.{length, take, drop, getD, set, length-append, length-drop, length-set, length-map, List·getD-map}
+use lib.Seq.{take-at, drop-at, length-take-le, getD-set-same, getD-set-other}
+use Rattle.cells.specs.Splice.{part}
+use Rattle.instrument.specs.declared.Instrument.{Instrument}
+use Rattle.instrument.specs.Work.{partCells}
+use Rattle.score.specs.declared.TimedEvent.{TimedEvent}
+use Rattle.score.specs.Events.{State}
+use Rattle.score.specs.Score.{noEvent, eventsAt}
+use Rattle.render.specs.Render.{run, samples, forces, silence, renderState, renderSamples, renderForces}
+use Rattle.render.specs.Laws.{samples-length, render-then, render-local, render-samples, render-forces}
+use Rattle.positions.specs.Positions.{end, count, isIn, others, above, upTo, greatest, Same}
+use Rattle.positions.specs.Laws.{and-true, true-or-false, same-cons, same-upTo, in-front, in-cons, in-cases, in-same, in-upTo, greatest-same, greatest-member, greatest-upTo, count-others}
+use Rattle.score_edits.specs.Edits.{placed, removed}
+use Rattle.score_edits.specs.Laws.{length-placed, length-removed, placed-before, removed-before}
+use Rattle.machine.specs.Refusals.{orElse, playRefusal, cueRefusal, goRefusal, insertRefusal, removeRefusal}
+use Rattle.machine.specs.Machine.{Machine, Call, Reply, startOf, settled, edit, unless, does, blockSamples, blockForces}
+use Rattle.machine.specs.Laws.{SoundMachine, sound-does, settled-low, cue-passed, insert-passed, remove-passed}
+use Rattle.session_cues.specs.declared.Cue.{Cue}
+use Rattle.session_cues.specs.Cues.{keptOf, freeSlot, dropAbove}
+use Rattle.session_cues.specs.Laws.{free-slot-free, free-slot-full, kept-set, kept-drop}
+use Rattle.session_record.specs.declared.Session.{Session}
+use Rattle.session_record.specs.Record.{scoreOf, recordRefusal}
+use Rattle.session.specs.declared.Answer.{Answer}
+use Rattle.session.specs.declared.Outcome.{Outcome}
+use Rattle.session.specs.Calls.{keptBy, emptyCue, cueAt, stateNow, stateCue, heldAt, refusedWith, Plays, PlayMeets, Cues, CueMeets, Goes, GoMeets, Edits, InsertMeets, RemoveMeets}
+use Rattle.session.specs.Laws.{get-any, rendered-length}
+use Rattle.session_theorem.specs.Runs.{replyOf, Follows}
+use Rattle.session_theorem.specs.Memory.{front-now, front-cue, front-length, slot-now, slot-new, slot-other, slot-length}
+use Rattle.session_theorem.specs.Stands.{Stands, standing-passes, held-render, score-length}
+
+-- a call by its refusal: `n` is the contract's, `m` the machine's
+by-refusal : (i : Instrument) (s : Session) (work : List Float) (p : Machine) (n m : ℕ) (done : Machine × Reply) (r : Outcome) (work′ out trace : List Float) → Stands i s work p → n ≡ m
+    → ((n ≡ 0 → ⊥) → (r ≡ refusedWith s n) × (work′ ≡ work)) → (n ≡ 0 → Stands i (r .session) work′ (done .0) × (replyOf (r .answer) out trace ≡ done .1))
+    → Stands i (r .session) work′ (unless m p done .0) × (replyOf (r .answer) out trace ≡ unless m p done .1)
+by-refusal i s work p n zero done r work′ out trace g e refuses accepts = accepts e
+by-refusal i s work p n (suc m) done r work′ out trace g e refuses accepts =
+    let h = refuses (λ z. omega arith) in
+    (rw (h .0, h .1) g, ap (λ q. replyOf (q .answer) out trace) (h .0) ∙ ap Reply.refused e)
+
+-- the contract's refusal is the machine's, since 7 and 8 do not come
+refusal-same : (a b c : ℕ) → a ≡ 0 → b ≡ c → orElse a b ≡ c
+refusal-same a b c e f = rw e f
+
+-- a call that leaves the cues and their parts alone: the first part and t are new
+module _ (i : Instrument) (s s′ : Session) (work work′ : List Float) (p p′ : Machine) (g : Stands i s work p) (m : SoundMachine p′) (st : State)
+    (here : s′ ≡ record { t = p′ .t; count = s .count; events = s .events; cues = s .cues; piano = st .piano })
+    (memory : work′ ≡ st .cells ++ drop (partCells i) work) (right : st ≡ renderState i (p .score) (p′ .t)) (same-score : p′ .score ≡ p .score) (same-cues : p′ .cues ≡ p .cues) where
+  size : length (st .cells) ≡ partCells i
+  size = ap (λ x. length (x .cells)) right ∙ rendered-length i (g .instrument) (p .score) (p′ .t)
+
+  moved : Stands i s′ work′ p′
+  moved =
+      record {
+        follows = record {
+          score = rw (here, same-score) (g .follows .score);
+          position = rw here refl;
+          cues = rw (here, same-cues) (g .follows .cues);
+          now = rw (here, front-now (partCells i) (st .cells) work work′ memory size (g .room), same-score) right;
+          held = λ j l k.
+              rw (here, front-cue (partCells i) (st .cells) work work′ memory size (g .room) j, same-score) (kept j l (rw here at k));
+        };
+        machine = m;
+        instrument = g .instrument;
+        few = rw here (g .few);
+        long = rw here (g .long);
+        four = rw here (g .four);
+        room = omega (arith, front-length (partCells i) (st .cells) work work′ memory size (g .room), g .room);
+      }
+    where
+      kept : (j : ℕ) → j < 4 → getD (s .cues) j (emptyCue (st .piano)) .kept ≡ true
+          → record { piano = getD (s .cues) j (emptyCue (st .piano)) .piano; cells = part ((j + 1) * partCells i) (partCells i) work } ≡ renderState i (p .score) (getD (s .cues) j (emptyCue (st .piano)) .position)
+      kept j l k =
+          let d = get-any (s .cues) j (emptyCue (st .piano)) (emptyCue (s .piano)) (omega (arith, g .four)) in
+          rw d (g .follows .held j l (ap (λ c. c .kept) (sym d) ∙ k))
+
+module _ (i : Instrument) (s : Session) (work : List Float) (p : Machine) (g : Stands i s work p) where
+  f : Follows i s work p
+  f = g .follows
+
+  -- ---- play
+  module _ (scratch : ℕ) (out trace work′ out′ trace′ : List Float) (r : Outcome) (h : PlayMeets i s work scratch out trace r work′ out′ trace′) where
+    abbrev m : ℕ
+    m = length out
+
+    abbrev playing : Call
+    playing = Call.play scratch m (length trace)
+
+    play-same : orElse (recordRefusal i s (length work)) (playRefusal i (s .t) scratch m (length trace)) ≡ playRefusal i (p .t) scratch m (length trace)
+    play-same = refusal-same _ _ _ (standing-passes i s work p g) (ap (λ t. playRefusal i t scratch m (length trace)) (f .position))
+
+    module _ (d : Plays i s work out trace r work′ out′ trace′) (sound : SoundMachine (record { score = p .score; t = p .t + m; cues = p .cues })) where
+      play-stands : Stands i (r .session) work′ (record { score = p .score; t = p .t + m; cues = p .cues })
+      play-stands =
+          moved i s (r .session) work work′ p (record { score = p .score; t = p .t + m; cues = p .cues }) g sound (run i (scoreOf s) (s .t) m (stateNow i s work))
+          (d .session ∙ rw (f .position) refl) (d .memory) (rw (f .score, f .position, f .now) (sym (render-then i (p .score) (p .t) m))) refl refl
+
+      abbrev pushed : List Float
+      pushed = forces i (scoreOf s) (s .t) m (stateNow i s work)
+
+      pushed-is : pushed ≡ blockForces i (p .score) (p .t) m
+      unfolding blockForces
+      pushed-is =
+          rw (f .score, f .position, f .now)
+          (sym (ap (drop (length (renderForces i (p .score) (p .t)))) (render-forces i (p .score) (p .t) m)
+          ∙ drop-at (renderForces i (p .score) (p .t)) (forces i (p .score) (p .t) m (renderState i (p .score) (p .t))) (length (renderForces i (p .score) (p .t))) refl))
+
+      sounded-is : out′ ≡ blockSamples i (p .score) (p .t) m
+      unfolding blockSamples
+      sounded-is =
+          d .sound
+          ∙ rw (f .score, f .position, f .now)
+          (sym (ap (drop (p .t)) (render-samples i (p .score) (p .t) m)
+          ∙ drop-at (renderSamples i (p .score) (p .t)) (samples i (p .score) (p .t) m (renderState i (p .score) (p .t))) (p .t) (samples-length i (p .score) 0 (p .t) (silence i))))
+
+      play-reply : replyOf (r .answer) out′ trace′ ≡ Reply.played (length (blockForces i (p .score) (p .t) m)) (blockSamples i (p .score) (p .t) m) (blockForces i (p .score) (p .t) m)
+      play-reply =
+          let k : take (length pushed) trace′ ≡ pushed = ap (take (length pushed)) (d .pushes) ∙ take-at pushed (drop (length pushed) trace) (length pushed) refl in
+          rw (d .answer, k, pushed-is, sounded-is)
+
+    pub play-step : Stands i (r .session) work′ (does i p playing .0) × (replyOf (r .answer) out′ trace′ ≡ does i p playing .1)
+    unfolding does
+    play-step =
+        by-refusal i s work p _ (playRefusal i (p .t) scratch m (length trace)) _ r work′ out′ trace′ g play-same
+        (λ n. let x = h .refuses n in (x .0, x .1))
+        (λ z. let d = h .accepts z in (play-stands d (play-sound (sym play-same ∙ z)), play-reply d (play-sound (sym play-same ∙ z))))
+      where
+        play-sound : playRefusal i (p .t) scratch m (length trace) ≡ 0 → SoundMachine (record { score = p .score; t = p .t + m; cues = p .cues })
+        play-sound z = rw z at (sound-does p (g .machine) i playing)
+
+  -- ---- cue
+  module _ (work′ : List Float) (r : Outcome) (h : CueMeets i s work r work′) where
+    cue-same : orElse (recordRefusal i s (length work)) (cueRefusal (s .t) (keptBy s)) ≡ cueRefusal (p .t) (p .cues)
+    cue-same = refusal-same _ _ _ (standing-passes i s work p g) (rw (f .position, f .cues (λ y. not (eqb (p .t) y))) refl)
+
+    kept-same : isIn (s .t) (keptBy s) ≡ isIn (p .t) (p .cues)
+    kept-same = ap (λ t. isIn t (keptBy s)) (f .position) ∙ in-same (p .t) (keptBy s) (p .cues) (f .cues)
+
+    module _ (d : Cues i s work r work′) (absent : isIn (s .t) (keptBy s) ≡ false) (z : cueRefusal (s .t) (keptBy s) ≡ 0)
+        (sound : SoundMachine (record { score = p .score; t = p .t; cues = p .t ∷ p .cues })) where
+      abbrev slot : ℕ
+      slot = freeSlot (s .cues)
+
+      abbrev new : Cue
+      new = record { kept = true; position = s .t; piano = s .piano }
+
+      slot-low : slot < 4
+      slot-low =
+          let few = cue-passed (s .t) (keptBy s) z in
+          let less : length (keptBy s) < length (s .cues) = omega (arith, g .four, few, count-others (s .t) (keptBy s), ltb-false 0 (count (eqb (s .t)) (keptBy s)) absent) in
+          omega (arith, g .four, ltb-true slot (length (s .cues)) (free-slot-full (s .cues) ∙ lt-ltb (length (keptBy s)) (length (s .cues)) less))
+
+      here : r .session ≡ record { t = s .t; count = s .count; events = s .events; cues = set (s .cues) slot new; piano = s .piano }
+      here = d .adds absent .0
+
+      first : length (take (partCells i) work) ≡ partCells i
+      first = length-take-le (partCells i) work (omega (arith, g .room))
+
+      -- slot by slot: the new one, or another
+      slot-held : (j : ℕ) → j < 4 → getD (set (s .cues) slot new) j (emptyCue (s .piano)) .kept ≡ true
+          → record { piano = getD (set (s .cues) slot new) j (emptyCue (s .piano)) .piano; cells = part ((j + 1) * partCells i) (partCells i) work′ }
+          ≡ renderState i (p .score) (getD (set (s .cues) slot new) j (emptyCue (s .piano)) .position)
+      slot-held j l k = go (eqb j slot) refl
+        where
+          go : (b : Bool) → eqb j slot ≡ b
+              → record { piano = getD (set (s .cues) slot new) j (emptyCue (s .piano)) .piano; cells = part ((j + 1) * partCells i) (partCells i) work′ }
+              ≡ renderState i (p .score) (getD (set (s .cues) slot new) j (emptyCue (s .piano)) .position)
+          go true e =
+              rw (
+                eqb-true j slot e,
+                getD-set-same (s .cues) slot new (emptyCue (s .piano)) (omega (arith, g .four, slot-low)),
+                slot-new (partCells i) slot (take (partCells i) work) work work′ (d .adds absent .1) first slot-low (g .room),
+              )
+              (f .now ∙ ap (renderState i (p .score)) (sym (f .position)))
+          go false e =
+              let away = eqb-false j slot e in
+              let c = getD-set-other (s .cues) slot j new (emptyCue (s .piano)) away in
+              rw (c, slot-other (partCells i) slot (take (partCells i) work) work work′ (d .adds absent .1) first slot-low (g .room) j away)
+              (f .held j l (ap (λ x. x .kept) (sym c) ∙ k))
+
+      cue-added : Stands i (r .session) work′ (record { score = p .score; t = p .t; cues = p .t ∷ p .cues })
+      cue-added =
+          record {
+            follows = record {
+              score = rw here (f .score);
+              position = rw here (f .position);
+              cues = λ t. rw here
+                  (kept-set (s .cues) slot new (emptyCue (s .piano)) (omega (arith, g .four, slot-low)) (free-slot-free (s .cues) (emptyCue (s .piano)) (omega (arith, g .four, slot-low))) refl t
+                  ∙ ap (λ x. count t (x ∷ keptBy s)) (f .position) ∙ same-cons (p .t) (keptBy s) (p .cues) (f .cues) t);
+              now = rw (here, slot-now (partCells i) slot (take (partCells i) work) work work′ (d .adds absent .1) first slot-low (g .room)) (f .now);
+              held = λ j l k. rw here (slot-held j l (rw here at k));
+            };
+            machine = sound;
+            instrument = g .instrument;
+            few = rw here (g .few);
+            long = rw here (g .long);
+            four = rw here (length-set (s .cues) slot new ∙ g .four);
+            room = omega (arith, slot-length (partCells i) slot (take (partCells i) work) work work′ (d .adds absent .1) first slot-low (g .room), g .room);
+          }
+
+    cue-stands : (b : Bool) → isIn (p .t) (p .cues) ≡ b → Cues i s work r work′ → cueRefusal (s .t) (keptBy s) ≡ 0
+        → SoundMachine (record { score = p .score; t = p .t; cues = cond b (p .cues) (p .t ∷ p .cues) })
+        → Stands i (r .session) work′ (record { score = p .score; t = p .t; cues = cond b (p .cues) (p .t ∷ p .cues) })
+    cue-stands true e d z sound = let x = d .again (kept-same ∙ e) in rw (x .0, x .1) g
+    cue-stands false e d z sound = cue-added d (kept-same ∙ e) z sound
+
+    pub cue-step : Stands i (r .session) work′ (does i p Call.cue .0) × (replyOf (r .answer) [] [] ≡ does i p Call.cue .1)
+    unfolding does
+    cue-step =
+        by-refusal i s work p _ (cueRefusal (p .t) (p .cues)) _ r work′ [] [] g cue-same (h .refuses)
+        (λ z.
+        let d = h .accepts z in
+        let m = sym cue-same ∙ z in
+        let own : cueRefusal (s .t) (keptBy s) ≡ 0 = rw (f .position, f .cues (λ y. not (eqb (p .t) y))) m in
+        (cue-stands (isIn (p .t) (p .cues)) refl d own (rw m at (sound-does p (g .machine) i Call.cue)), ap (λ a. replyOf a [] []) (d .answer)))
+
+  -- ---- go
+  module _ (scratch q : ℕ) (work′ : List Float) (r : Outcome) (h : GoMeets i s work scratch q r work′) where
+    abbrev start : ℕ
+    start = startOf (p .t) (p .cues) q
+
+    start-same : startOf (s .t) (keptBy s) q ≡ start
+    start-same =
+        ap (λ t. startOf t (keptBy s) q) (f .position)
+        ∙ greatest-same (upTo q (p .t ∷ keptBy s)) (upTo q (p .t ∷ p .cues)) (same-upTo q (p .t ∷ keptBy s) (p .t ∷ p .cues) (same-cons (p .t) (keptBy s) (p .cues) (f .cues)))
+
+    go-same : orElse (recordRefusal i s (length work)) (goRefusal i scratch q (startOf (s .t) (keptBy s) q)) ≡ goRefusal i scratch q start
+    go-same = refusal-same _ _ _ (standing-passes i s work p g) (ap (goRefusal i scratch q) start-same)
+
+    -- the start is 0, t or a kept cue
+    start-held : (startOf (s .t) (keptBy s) q ≡ 0) ⊎ (isIn (startOf (s .t) (keptBy s) q) (s .t ∷ keptBy s) ≡ true)
+    start-held =
+        ⊎-elim (λ (z : greatest (upTo q (s .t ∷ keptBy s)) ≡ 0). inl z)
+        (λ (z : isIn (greatest (upTo q (s .t ∷ keptBy s))) (upTo q (s .t ∷ keptBy s)) ≡ true).
+        inr (sym (in-upTo q (greatest (upTo q (s .t ∷ keptBy s))) (s .t ∷ keptBy s) (greatest-upTo q (s .t ∷ keptBy s))) ∙ z))
+        (greatest-member (upTo q (s .t ∷ keptBy s)))
+
+    module _ (d : Goes i s work q (startOf (s .t) (keptBy s) q) r work′) (sound : SoundMachine (record { score = p .score; t = q; cues = p .cues })) where
+      go-stands : Stands i (r .session) work′ (record { score = p .score; t = q; cues = p .cues })
+      go-stands =
+          let x = startOf (s .t) (keptBy s) q in
+          let low : x + (q - x) ≡ q = add-sub-of-le (greatest-upTo q (s .t ∷ keptBy s)) in
+          moved i s (r .session) work work′ p (record { score = p .score; t = q; cues = p .cues }) g sound (run i (scoreOf s) x (q - x) (heldAt i s work x)) (d .session) (d .memory)
+          (rw (f .score, held-render i s work p g x start-held) (sym (render-then i (p .score) x (q - x)) ∙ ap (renderState i (p .score)) low)) refl refl
+
+    pub go-step : Stands i (r .session) work′ (does i p (Call.go scratch q) .0) × (replyOf (r .answer) [] [] ≡ does i p (Call.go scratch q) .1)
+    unfolding does
+    go-step =
+        by-refusal i s work p _ (goRefusal i scratch q start) _ r work′ [] [] g go-same (h .refuses)
+        (λ z.
+        let d = h .accepts z in (
+          go-stands d (rw (sym go-same ∙ z) at (sound-does p (g .machine) i (Call.go scratch q))),
+          ap (λ a. replyOf a [] []) (d .answer) ∙ ap (λ x. Reply.went (q - x)) start-same,
+        ))
+
+  -- ---- insert and remove: an edit at q that leaves the events before q alone
+  module _ (q number : ℕ) (left score′ : List TimedEvent) (work′ : List Float) (r : Outcome) (d : Edits i s work q number left r work′)
+      (new-score : take number left ≡ score′) (few : number ≤ 64) (long : length left ≡ 64) (alike : (k : ℕ) → k < q → eventsAt (p .score) k ≡ eventsAt score′ k)
+      (sound : SoundMachine (edit p score′ q .0)) where
+    t-same : settled (s .t) (keptBy s) q ≡ settled (p .t) (p .cues) q
+    t-same = rw (f .position, greatest-same (upTo q (keptBy s)) (upTo q (p .cues)) (same-upTo q (keptBy s) (p .cues) (f .cues))) refl
+
+    -- t is where it was, 0 or a kept cue
+    t-held : (settled (s .t) (keptBy s) q ≡ 0) ⊎ (isIn (settled (s .t) (keptBy s) q) (s .t ∷ keptBy s) ≡ true)
+    t-held = go (ltb q (s .t)) refl
+      where
+        go : (b : Bool) → ltb q (s .t) ≡ b → (cond b (greatest (upTo q (keptBy s))) (s .t) ≡ 0) ⊎ (isIn (cond b (greatest (upTo q (keptBy s))) (s .t)) (s .t ∷ keptBy s) ≡ true)
+        go true e =
+            ⊎-elim (λ (z : greatest (upTo q (keptBy s)) ≡ 0). inl z)
+            (λ (z : isIn (greatest (upTo q (keptBy s))) (upTo q (keptBy s)) ≡ true).
+            inr (in-cons (greatest (upTo q (keptBy s))) (s .t) (keptBy s) (sym (in-upTo q (greatest (upTo q (keptBy s))) (keptBy s) (greatest-upTo q (keptBy s))) ∙ z)))
+            (greatest-member (upTo q (keptBy s)))
+        go false e = inr (in-front (s .t) (keptBy s))
+
+    render-alike : (x : ℕ) → x ≤ q → renderState i (p .score) x ≡ renderState i score′ x
+    render-alike x l = render-local i (p .score) score′ x (λ k m. alike k (omega arith))
+
+    abbrev t′ : ℕ
+    t′ = settled (s .t) (keptBy s) q
+
+    held-is : heldAt i s work t′ ≡ renderState i score′ t′
+    held-is = held-render i s work p g t′ t-held ∙ render-alike t′ (settled-low (s .t) (keptBy s) q)
+
+    size′ : length (heldAt i s work t′ .cells) ≡ partCells i
+    size′ = ap (λ x. length (x .cells)) held-is ∙ rendered-length i (g .instrument) score′ t′
+
+    -- a cue that stays was kept, not above q
+    cue-stays : (c : Cue) → dropAbove q c .kept ≡ true → (c .kept ≡ true) × (c .position ≤ q)
+    cue-stays c e = let b = and-true (c .kept) (leb (c .position) q) e in (b .0, leb-true (c .position) q (b .1))
+
+    edit-stands : Stands i (r .session) work′ (edit p score′ q .0)
+    edit-stands =
+        record {
+          follows = record {
+            score = rw (d .session) new-score;
+            position = rw (d .session) t-same;
+            cues = λ t. rw (d .session) (ap (count t) (kept-drop q (s .cues)) ∙ same-upTo q (keptBy s) (p .cues) (f .cues) t);
+            now = rw (d .session, front-now (partCells i) (heldAt i s work t′ .cells) work work′ (d .memory) size′ (g .room)) (held-is ∙ ap (renderState i score′) t-same);
+            held = λ j l k.
+                rw (d .session, front-cue (partCells i) (heldAt i s work t′ .cells) work work′ (d .memory) size′ (g .room) j) (slot-held j l (rw (d .session) at k));
+          };
+          machine = sound;
+          instrument = g .instrument;
+          few = rw (d .session) few;
+          long = rw (d .session) long;
+          four = rw (d .session) (length-map (s .cues) (dropAbove q) ∙ g .four);
+          room = omega (arith, front-length (partCells i) (heldAt i s work t′ .cells) work work′ (d .memory) size′ (g .room), g .room);
+        }
+      where
+        slot-held : (j : ℕ) → j < 4 → getD (map (dropAbove q) (s .cues)) j (emptyCue (heldAt i s work t′ .piano)) .kept ≡ true
+            → record { piano = getD (map (dropAbove q) (s .cues)) j (emptyCue (heldAt i s work t′ .piano)) .piano; cells = part ((j + 1) * partCells i) (partCells i) work }
+            ≡ renderState i score′ (getD (map (dropAbove q) (s .cues)) j (emptyCue (heldAt i s work t′ .piano)) .position)
+        slot-held j l k =
+            let there : j < length (map (dropAbove q) (s .cues)) = omega (arith, length-map (s .cues) (dropAbove q), g .four) in
+            let c = get-any (map (dropAbove q) (s .cues)) j (emptyCue (heldAt i s work t′ .piano)) (dropAbove q (emptyCue (s .piano))) there ∙ List·getD-map (dropAbove q) (s .cues) j (emptyCue (s .piano)) in
+            let b = cue-stays (cueAt s j) (ap (λ x. x .kept) (sym c) ∙ k) in
+            rw c (f .held j l (b .0) ∙ render-alike (cueAt s j .position) (b .1))
+
+    edit-reply : replyOf (r .answer) [] [] ≡ edit p score′ q .1
+    edit-reply = ap (λ a. replyOf a [] []) (d .answer) ∙ rw (t-same, f .cues (ltb q)) refl
+
+  module _ (e : TimedEvent) (work′ : List Float) (r : Outcome) (h : InsertMeets i s work e r work′) where
+    insert-same : orElse (recordRefusal i s (length work)) (insertRefusal (s .count) e) ≡ insertRefusal (length (p .score)) e
+    insert-same = refusal-same _ _ _ (standing-passes i s work p g) (rw (score-length i s work p g) refl)
+
+    pub insert-step : Stands i (r .session) work′ (does i p (Call.insert e) .0) × (replyOf (r .answer) [] [] ≡ does i p (Call.insert e) .1)
+    unfolding does
+    insert-step =
+        by-refusal i s work p _ (insertRefusal (length (p .score)) e) (edit p (placed (p .score) e) (e .position)) r work′ [] [] g insert-same (h .refuses)
+        (λ z.
+        let m = sym insert-same ∙ z in
+        let d = h .accepts z in
+        let q = insert-passed (length (p .score)) e m in
+        let size : length (placed (scoreOf s) e) ≡ s .count + 1 = omega (arith, length-placed (scoreOf s) e, ap length (f .score), score-length i s work p g) in
+        let few : s .count + 1 ≤ 64 = omega (arith, q .1, score-length i s work p g) in
+        let new : take (s .count + 1) (placed (scoreOf s) e ++ drop (s .count + 1) (s .events)) ≡ placed (p .score) e =
+        take-at (placed (scoreOf s) e) (drop (s .count + 1) (s .events)) (s .count + 1) size ∙ ap (λ l. placed l e) (f .score) in
+        let long : length (placed (scoreOf s) e ++ drop (s .count + 1) (s .events)) ≡ 64 =
+        omega (arith, length-append (placed (scoreOf s) e) (drop (s .count + 1) (s .events)), length-drop (s .count + 1) (s .events), g .long) in
+        let sound : SoundMachine (edit p (placed (p .score) e) (e .position) .0) = rw m at (sound-does p (g .machine) i (Call.insert e)) in
+        let alike : (k : ℕ) → k < e .position → eventsAt (p .score) k ≡ eventsAt (placed (p .score) e) k = λ k l. placed-before (p .score) e k l in (
+          edit-stands (e .position) (s .count + 1) _ (placed (p .score) e) work′ r d new few long alike sound,
+          edit-reply (e .position) (s .count + 1) _ (placed (p .score) e) work′ r d new few long alike sound,
+        ))
+
+  module _ (index : ℕ) (work′ : List Float) (r : Outcome) (h : RemoveMeets i s work index r work′) where
+    remove-same : orElse (recordRefusal i s (length work)) (removeRefusal (s .count) index) ≡ removeRefusal (length (p .score)) index
+    remove-same = refusal-same _ _ _ (standing-passes i s work p g) (rw (score-length i s work p g) refl)
+
+    pub remove-step : Stands i (r .session) work′ (does i p (Call.remove index) .0) × (replyOf (r .answer) [] [] ≡ does i p (Call.remove index) .1)
+    unfolding does
+    remove-step =
+        by-refusal i s work p _ (removeRefusal (length (p .score)) index) (edit p (removed (p .score) index) (getD (p .score) index noEvent .position)) r work′ [] [] g remove-same (h .refuses)
+        (λ z.
+        let m = sym remove-same ∙ z in
+        let there : index < length (p .score) = remove-passed (length (p .score)) index m in
+        let at-q : getD (scoreOf s) index noEvent .position ≡ getD (p .score) index noEvent .position = ap (λ l. getD l index noEvent .position) (f .score) in
+        let d : Edits i s work (getD (p .score) index noEvent .position) (s .count - 1) (removed (scoreOf s) index ++ drop (s .count - 1) (s .events)) r work′ = rw at-q at (h .accepts z) in
+        let size : length (removed (scoreOf s) index) ≡ s .count - 1 =
+        omega (arith, length-removed (scoreOf s) index (omega (arith, ap length (f .score), there)), ap length (f .score), score-length i s work p g) in
+        let few : s .count - 1 ≤ 64 = omega (arith, g .few) in
+        let new : take (s .count - 1) (removed (scoreOf s) index ++ drop (s .count - 1) (s .events)) ≡ removed (p .score) index =
+        take-at (removed (scoreOf s) index) (drop (s .count - 1) (s .events)) (s .count - 1) size ∙ ap (λ l. removed l index) (f .score) in
+        let long : length (removed (scoreOf s) index ++ drop (s .count - 1) (s .events)) ≡ 64 =
+        omega (arith, length-append (removed (scoreOf s) index) (drop (s .count - 1) (s .events)), length-drop (s .count - 1) (s .events), g .long, g .few) in
+        let sound : SoundMachine (edit p (removed (p .score) index) (getD (p .score) index noEvent .position) .0) = rw m at (sound-does p (g .machine) i (Call.remove index)) in
+        let alike : (k : ℕ) → k < getD (p .score) index noEvent .position → eventsAt (p .score) k ≡ eventsAt (removed (p .score) index) k =
+        λ k l. removed-before (p .score) index noEvent k there l in (
+          edit-stands (getD (p .score) index noEvent .position) (s .count - 1) _ (removed (p .score) index) work′ r d new few long alike sound,
+          edit-reply (getD (p .score) index noEvent .position) (s .count - 1) _ (removed (p .score) index) work′ r d new few long alike sound,
+        ))

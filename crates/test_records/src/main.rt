@@ -1,0 +1,222 @@
+// Records that no list of calls reaches, handed to every call: those that refusal 7 has to catch, and those that differ from a right one only where nothing may be decided. Each line has the
+// number that each call gives, 0 where it is accepted, and whether a refused call changed a cell.
+mod records;
+
+use instrument::Instrument;
+use libc::STDOUT_FILENO;
+use score::Event;
+use score::TimedEvent;
+use session::Answer;
+use session_record::Session;
+use test_answers::digest;
+
+fn number_of(answer: Answer) -> u64 {
+    match answer {
+        Answer::Refused(n) => n,
+        _ => 0,
+    }
+}
+
+fn say(name: &[u8], n: u64) {
+    io::write_all(STDOUT_FILENO, name);
+    io::print_decimal(STDOUT_FILENO, n);
+}
+
+// A refused call leaves every cell.
+fn say_cells(n: u64, before: u64, after: u64) {
+    if n == 0 {
+        return;
+    }
+    if before != after {
+        io::write_all(STDOUT_FILENO, b" (changed)");
+    }
+}
+
+fn try_play(instrument: Instrument, session: Session, work: &mut [f64]) {
+    let mut scratch = [0.0; 192];
+    let mut out = [0.5; 4];
+    let mut trace = [0.5; 4];
+    let before = digest(work);
+    let done = session::play(
+        instrument,
+        session,
+        work,
+        &mut scratch,
+        &mut out,
+        &mut trace,
+    );
+    let answer = done.answer;
+    let n = number_of(answer);
+    say(b" play ", n);
+    say_cells(n, before, digest(work));
+    if n != 0 {
+        if digest(&out) != digest(&[0.5, 0.5, 0.5, 0.5]) {
+            io::write_all(STDOUT_FILENO, b" (output changed)");
+        }
+        if digest(&trace) != digest(&[0.5, 0.5, 0.5, 0.5]) {
+            io::write_all(STDOUT_FILENO, b" (trace changed)");
+        }
+    }
+}
+
+fn try_cue(instrument: Instrument, session: Session, work: &mut [f64]) {
+    let before = digest(work);
+    let done = session::cue(instrument, session, work);
+    let answer = done.answer;
+    let n = number_of(answer);
+    say(b" cue ", n);
+    say_cells(n, before, digest(work));
+}
+
+fn try_go(instrument: Instrument, session: Session, work: &mut [f64]) {
+    let mut scratch = [0.0; 192];
+    let before = digest(work);
+    let done = session::go(instrument, session, work, &mut scratch, 3);
+    let answer = done.answer;
+    let n = number_of(answer);
+    say(b" go ", n);
+    say_cells(n, before, digest(work));
+}
+
+fn try_insert(instrument: Instrument, session: Session, work: &mut [f64]) {
+    let timed = TimedEvent {
+        position: 2,
+        event: Event::Pedal(true),
+    };
+    let before = digest(work);
+    let done = session::insert(instrument, session, work, timed);
+    let answer = done.answer;
+    let n = number_of(answer);
+    say(b" insert ", n);
+    say_cells(n, before, digest(work));
+}
+
+fn try_remove(instrument: Instrument, session: Session, work: &mut [f64]) {
+    let before = digest(work);
+    let done = session::remove(instrument, session, work, 0);
+    let answer = done.answer;
+    let n = number_of(answer);
+    say(b" remove ", n);
+    say_cells(n, before, digest(work));
+}
+
+fn try_energies(instrument: Instrument, session: Session, work: &[f64]) {
+    let answer = energies::key_energies(instrument, session, work);
+    say(b" energies ", answer.refusal);
+}
+
+// Every call gets the same session, and the memory that the others left.
+fn try_calls(name: &[u8], instrument: Instrument, session: Session) {
+    let mut work = [0.25; 25310];
+    io::write_all(STDOUT_FILENO, name);
+    io::write_all(STDOUT_FILENO, b":");
+    try_energies(instrument, session, &work);
+    try_play(instrument, session, &mut work);
+    try_cue(instrument, session, &mut work);
+    try_go(instrument, session, &mut work);
+    try_insert(instrument, session, &mut work);
+    try_remove(instrument, session, &mut work);
+    io::write_all(STDOUT_FILENO, b"\n");
+}
+
+// t, the count and the events.
+fn try_scores(i: Instrument, s: Session) {
+    try_calls(b"t above the end", i, records::at(s, 2_000_000_001));
+    try_calls(b"65 events", i, records::with_count(s, 65));
+    try_calls(b"a position that falls", i, records::with_events(s, 9, 8));
+    try_calls(
+        b"a position above the end",
+        i,
+        records::with_events(s, 0, 2_000_000_001),
+    );
+    try_calls(
+        b"a velocity of NaN",
+        i,
+        records::with_velocity(s, 0.0 / 0.0),
+    );
+    try_calls(b"a velocity of 100.5", i, records::with_velocity(s, 100.5));
+    try_calls(
+        b"a velocity of -infinity",
+        i,
+        records::with_velocity(s, -1.0 / 0.0),
+    );
+}
+
+// The hammer and the count of contacts, in the piano now.
+fn try_pianos(i: Instrument, s: Session) {
+    try_calls(
+        b"a hammer on a key not there",
+        i,
+        records::with_hammer(s, i.key_count),
+    );
+    try_calls(b"a contact count above t", i, records::with_contacts(s, 11));
+}
+
+fn try_cues(i: Instrument, s: Session) {
+    try_calls(
+        b"a cue above the end",
+        i,
+        records::with_cue(s, 0, 2_000_000_001),
+    );
+    let one = records::with_cue(s, 1, 5);
+    try_calls(b"two equal cues", i, records::with_cue(one, 3, 5));
+    try_calls(
+        b"a cue's hammer on a key not there",
+        i,
+        records::with_cue_hammer(s, 2, i.key_count),
+    );
+    try_calls(
+        b"a cue's contact count above it",
+        i,
+        records::with_cue_contacts(s, 2, 7),
+    );
+}
+
+// The instrument's half of refusal 7.
+fn try_instruments(i: Instrument, s: Session) {
+    try_calls(b"33 strings", records::with_strings(i, 33), s);
+    try_calls(b"no key", records::with_keys(i, 0), s);
+    try_calls(b"a rate of NaN", records::with_rate(i, 0.0 / 0.0), s);
+    try_calls(
+        b"an exponent of 11 halves",
+        records::with_exponent(i, 11),
+        s,
+    );
+    try_calls(
+        b"an unused key that is not zero",
+        records::with_last_key(i, 9),
+        s,
+    );
+}
+
+// Right records: the floats of the state may hold anything, and what lies past the counts decides nothing.
+fn try_right(i: Instrument, s: Session) {
+    try_calls(b"right", i, s);
+    try_calls(b"floats of the state", i, records::with_wild_floats(s));
+    try_calls(b"events past the count", i, records::with_wild_events(s));
+    try_calls(b"slots that keep nothing", i, records::with_wild_slots(s));
+    try_calls(b"a contact count of t", i, records::with_contacts(s, 10));
+    try_calls(b"a hammer on the last key", i, records::with_hammer(s, 7));
+}
+
+// A session at 10 that keeps nothing.
+fn right_session(i: Instrument) -> Session {
+    let mut work = [0.0; 25310];
+    let mut scratch = [0.0; 192];
+    let opened = session::open(i, &mut work);
+    let there = session::go(i, opened.session, &mut work, &mut scratch, 10);
+    there.session
+}
+
+fn main() {
+    let mut file = io::buffer();
+    let n = embedded::put_instrument(&mut file);
+    let answer = instrument::read(little_endian::part(&file, 0, n));
+    let i = answer.instrument;
+    let s = right_session(i);
+    try_right(i, s);
+    try_scores(i, s);
+    try_pianos(i, s);
+    try_cues(i, s);
+    try_instruments(i, s);
+}

@@ -1,0 +1,225 @@
+// A session that is right, with one thing changed.
+use instrument::Instrument;
+use points::HammerState;
+use sample::Motion;
+use score::Event;
+use score::Piano;
+use score::TimedEvent;
+use session_cues::Cue;
+use session_record::Session;
+
+pub fn at(session: Session, t: u64) -> Session {
+    let mut s = session;
+    s.t = t;
+    s
+}
+
+pub fn with_count(session: Session, count: usize) -> Session {
+    let mut s = session;
+    s.count = count;
+    s
+}
+
+// Two pedal moves, at p and q.
+pub fn with_events(session: Session, p: u64, q: u64) -> Session {
+    let mut s = session;
+    s.count = 2;
+    s.events[0] = TimedEvent {
+        position: p,
+        event: Event::Pedal(true),
+    };
+    s.events[1] = TimedEvent {
+        position: q,
+        event: Event::Pedal(false),
+    };
+    s
+}
+
+pub fn with_velocity(session: Session, velocity: f64) -> Session {
+    let mut s = session;
+    s.count = 1;
+    s.events[0] = TimedEvent {
+        position: 1,
+        event: Event::NoteOn { key: 60, velocity },
+    };
+    s
+}
+
+fn with_motion(piano: Piano, motion: Motion) -> Piano {
+    let held = piano.held;
+    let hand_damped = piano.hand_damped;
+    let damper_r = piano.damper_r;
+    Piano {
+        held,
+        hand_damped,
+        damper_r,
+        pedal: piano.pedal,
+        motion,
+    }
+}
+
+fn contacts(piano: Piano, contact_samples: u64) -> Piano {
+    let before = piano.motion;
+    let hammer = before.hammer;
+    let motion = Motion {
+        hammer,
+        contact_samples,
+        peak_force: before.peak_force,
+    };
+    with_motion(piano, motion)
+}
+
+fn hammer_on(piano: Piano, key_index: usize) -> Piano {
+    let before = piano.motion;
+    let motion = Motion {
+        hammer: HammerState::Flying {
+            key_index,
+            y_h: 0.0,
+            v_h: 1.0,
+        },
+        contact_samples: before.contact_samples,
+        peak_force: before.peak_force,
+    };
+    with_motion(piano, motion)
+}
+
+pub fn with_hammer(session: Session, key_index: usize) -> Session {
+    let mut s = session;
+    s.piano = hammer_on(session.piano, key_index);
+    s
+}
+
+pub fn with_contacts(session: Session, contact_samples: u64) -> Session {
+    let mut s = session;
+    s.piano = contacts(session.piano, contact_samples);
+    s
+}
+
+fn with_slot(session: Session, slot: usize, cue: Cue) -> Session {
+    let mut s = session;
+    if slot < 4 {
+        s.cues[slot] = cue;
+    }
+    s
+}
+
+pub fn with_cue(session: Session, slot: usize, position: u64) -> Session {
+    let piano = session.piano;
+    with_slot(
+        session,
+        slot,
+        Cue {
+            kept: true,
+            position,
+            piano,
+        },
+    )
+}
+
+pub fn with_cue_hammer(session: Session, slot: usize, key_index: usize) -> Session {
+    let piano = hammer_on(session.piano, key_index);
+    with_slot(
+        session,
+        slot,
+        Cue {
+            kept: true,
+            position: 6,
+            piano,
+        },
+    )
+}
+
+pub fn with_cue_contacts(session: Session, slot: usize, contact_samples: u64) -> Session {
+    let piano = contacts(session.piano, contact_samples);
+    with_slot(
+        session,
+        slot,
+        Cue {
+            kept: true,
+            position: 6,
+            piano,
+        },
+    )
+}
+
+// ---- what may be anything
+
+pub fn with_wild_floats(session: Session) -> Session {
+    let before = session.piano;
+    let motion = Motion {
+        hammer: HammerState::Flying {
+            key_index: 0,
+            y_h: 0.0 / 0.0,
+            v_h: 1.0 / 0.0,
+        },
+        contact_samples: 3,
+        peak_force: -1.0 / 0.0,
+    };
+    let piano = Piano {
+        held: [true; 16],
+        hand_damped: [true; 16],
+        damper_r: [0.0 / 0.0; 16],
+        pedal: before.pedal,
+        motion,
+    };
+    let mut s = session;
+    s.piano = piano;
+    s
+}
+
+pub fn with_wild_events(session: Session) -> Session {
+    let wild = TimedEvent {
+        position: 0xffff_ffff_ffff_ffff,
+        event: Event::NoteOn {
+            key: 255,
+            velocity: 0.0 / 0.0,
+        },
+    };
+    let mut s = session;
+    s.events = [wild; 64];
+    s
+}
+
+pub fn with_wild_slots(session: Session) -> Session {
+    let piano = hammer_on(contacts(session.piano, 0xffff_ffff_ffff_ffff), 99);
+    let wild = Cue {
+        kept: false,
+        position: 0xffff_ffff_ffff_ffff,
+        piano,
+    };
+    let mut s = session;
+    s.cues = [wild; 4];
+    s
+}
+
+// ---- instruments
+
+pub fn with_strings(instrument: Instrument, n: usize) -> Instrument {
+    let mut i = instrument;
+    i.string_count = n;
+    i
+}
+
+pub fn with_keys(instrument: Instrument, n: usize) -> Instrument {
+    let mut i = instrument;
+    i.key_count = n;
+    i
+}
+
+pub fn with_rate(instrument: Instrument, fs: f64) -> Instrument {
+    let mut i = instrument;
+    i.common.fs = fs;
+    i
+}
+
+pub fn with_exponent(instrument: Instrument, h: u32) -> Instrument {
+    let mut i = instrument;
+    i.common.hammer.exponent = h;
+    i
+}
+
+pub fn with_last_key(instrument: Instrument, key: u8) -> Instrument {
+    let mut i = instrument;
+    i.keys[15].key = key;
+    i
+}
