@@ -1,4 +1,4 @@
-// Document 01, "The session": `key_energies` as in the Rust. A line's energy is the sum of its cells' squares, a string's that of its six lines, a key's that of its tableStrings; each sum
+// Document 01, "The session": `key_energies` as in the Rust. A line's energy is the sum of its cells' squares, a string's that of its six lines, a key's that of its strings; each sum
 // starts at +0 and goes in the Rust's order. Work memory is lent shared: nothing changes.
 use instrument::Instrument;
 use session_record::Session;

@@ -12,7 +12,7 @@ use Rattle.instrument_fields.specs.declared.KeyDesign.{KeyDesign}
 use Rattle.instrument_fields.specs.declared.LoopDesign.{LoopDesign}
 use Rattle.counting.specs.Every.{every}
 
--- the float of a ofWhole number, and 2 ^ -20
+-- the float of a whole number, and 2 ^ -20
 abbrev pub ofWhole : ℕ → Float
 ofWhole n = ofInt binary64 (pos n)
 
@@ -23,7 +23,7 @@ least = fin false 1 (negsuc 19)
 unfoldable pub within : Float → Float → Float → Bool
 within low x high = le low x && le x high
 
--- "strictly strictlyBetween"
+-- "strictly between"
 unfoldable pub strictlyBetween : Float → Float → Float → Bool
 strictlyBetween low x high = lt low x && lt x high
 
@@ -63,7 +63,7 @@ keyInRange k =
     ∷ within (ofWhole 0) (k .«damper_ratio») (ofWhole 1)
     ∷ [])
 
--- "u16 n (4 to 2,000), u16 ap_count (0 to 66), f64 φ (0 to 4,096), thiran_a and ap_a (strictly strictlyBetween −1 and 1), loss_g (0 to 2), loss_c (0 to below 1)"
+-- "u16 n (4 to 2,000), u16 ap_count (0 to 66), f64 φ (0 to 4,096), thiran_a and ap_a (strictly between −1 and 1), loss_g (0 to 2), loss_c (0 to below 1)"
 unfoldable pub stringInRange : LoopDesign → Bool
 stringInRange s =
     every

@@ -124,7 +124,7 @@ fn is_within(low: f64, x: f64, high: f64) -> bool
     (low <= x) & (x <= high)
 }
 
-// Strictly strictlyBetween low and high.
+// Strictly between low and high.
 fn is_between(low: f64, x: f64, high: f64) -> bool
     ensures { λ r. ⌜ r ≡ strictlyBetween low x high ⌝ }
 {

@@ -1,4 +1,4 @@
-// The keys: their dampers' moves, and the speeds at the bridge that their tableStrings' sums give.
+// The keys: their dampers' moves, and the speeds at the bridge that their strings' sums give.
 use float::clamp;
 ghost use mathlib.Core.Path.{_≡_};
 ghost use Prim.Native.Nat.{_≤_, _<_};
@@ -8,7 +8,7 @@ ghost use Rattle.string.specs.Table.{tableStrings};
 ghost use Rattle.strings.specs.Strings.{AllFit};
 ghost use Rattle.keys.specs.Keys.{constantsAt, keysOf, dampedOf, dampers, sumsFrom, weightedTotal, speedOf, speeds};
 
-// A key's numbers: its weight, the damper's full resistance and its step a sample, and 1 + yz n for its n tableStrings.
+// A key's numbers: its weight, the damper's full resistance and its step a sample, and 1 + yz n for its n strings.
 pub struct KeyConstants {
     pub weight: f64,
     pub r_max: f64,

@@ -1,4 +1,4 @@
-// The loop filters of all tableStrings. The dispersion rows of up to four tableStrings go together, a stage of each at a turn: a stage waits
+// The loop filters of all strings. The dispersion rows of up to four strings go together, a stage of each at a turn: a stage waits
 // for the one before it in its own row alone, so the processor works on four at once.
 ghost use mathlib.Core.Path.{_≡_};
 ghost use mathlib.Core.List.{_++_};
@@ -8,7 +8,7 @@ ghost use Rattle.string.specs.Table.{designAt, tableStrings};
 ghost use Rattle.strings.specs.Strings.{AllFit, Indexed, cellsOf, filteredAll, vIns};
 ghost use Rattle.rows.specs.Rows.{rowStart, Few, Laid, Started, Staged, InRows, Finished, Filtered, FilteredTo};
 
-// Of a few tableStrings that go through their rows together: where each row starts among the part's cells, its coefficient, and
+// Of a few strings that go through their rows together: where each row starts among the part's cells, its coefficient, and
 // how many stages all of them have.
 pub struct Rows {
     pub starts: [usize; 4],
@@ -23,7 +23,7 @@ fn less(a: usize, b: usize) -> usize
     if a < b { a } else { b }
 }
 
-// The rows of the m tableStrings from string i on, whose cells start at cell `first`.
+// The rows of the m strings from string i on, whose cells start at cell `first`.
 fn rows_of(
     lengths: &[usize; 160],
     coefficients: &[f64; 128],
@@ -128,7 +128,7 @@ fn run_rows(
     }
 }
 
-// What is left of each loop filter behind `stages` stages; each string's v_in goes to its cell of v_in. It returns where the tableStrings' cells end.
+// What is left of each loop filter behind `stages` stages; each string's v_in goes to its cell of v_in. It returns where the strings' cells end.
 fn finish_strings(
     part: &mut [f64],
     v_in: &mut [f64],
@@ -158,7 +158,7 @@ fn finish_strings(
     at
 }
 
-// The loop filters of m tableStrings: the stages that all their rows have go in turns.
+// The loop filters of m strings: the stages that all their rows have go in turns.
 fn filter_together(
     part: &mut [f64],
     v_in: &mut [f64],
@@ -208,13 +208,13 @@ fn filter_one(
     e
 }
 
-// Where a walk over the tableStrings stands: the next string, and the cell where its cells start.
+// Where a walk over the strings stands: the next string, and the cell where its cells start.
 pub struct Next {
     pub at: usize,
     pub i: usize,
 }
 
-// The loop filters of the next few of n tableStrings: four, or as many as are left; a string that has no stages goes by itself. Each
+// The loop filters of the next few of n strings: four, or as many as are left; a string that has no stages goes by itself. Each
 // number is a case of its own, so that the compiler keeps the rows' values in registers.
 fn filter_next(
     part: &mut [f64],

@@ -19,20 +19,20 @@ use Rattle.keys.specs.Keys.{keysOf, dampers, bridgeSpeeds}
 use Rattle.sample.specs.declared.Motion.{Motion}
 use Rattle.sample.specs.declared.Setup.{Setup}
 
--- what a sample is computed with: the instrument's constants, its keys and its tableStrings
+-- what a sample is computed with: the instrument's constants, its keys and its strings
 pub record Model : Type 0 where
   pub constants : Constants
   pub keys : List KeyConstants
-  pub tableStrings : List StringDesign
+  pub strings : List StringDesign
 
 abbrev pub modelAt : Setup → List Float → List ℕ → List Float → Model
 modelAt setup table lengths coefficients = record {
   constants = setup .constants;
   keys = keysOf table (setup .keys);
-  tableStrings = tableStrings lengths coefficients (setup .strings);
+  strings = tableStrings lengths coefficients (setup .strings);
 }
 
--- the tables hold tableStrings that can sound, and the part w and the scratch v have cells for them
+-- the tables hold strings that can sound, and the part w and the scratch v have cells for them
 pub record Ready (setup : Setup) (lengths : List ℕ) (coefficients w v : List Float) : Type 0 where
   pub fit : AllFit lengths coefficients (setup .strings)
   pub keys : setup .keys ≤ 16

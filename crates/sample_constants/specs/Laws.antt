@@ -1,4 +1,4 @@
--- An instrument's tableStrings can sound: each has a cell in every line, by the cuts' clamps, and is of a key that is there; filled tables are the model.
+-- An instrument's strings can sound: each has a cell in every line, by the cuts' clamps, and is of a key that is there; filled tables are the model.
 use mathlib.Core.Path.{_≡_, refl}
 use mathlib.Core.Bool.{Bool, true, false, cond}
 use mathlib.Core.List.{List}
@@ -48,7 +48,7 @@ string-key : (i : Instrument) (j : ℕ) → stringIn i j .key ≡ ownerIn i j
 unfolding stringIn stringOf
 string-key i j = refl
 
--- filled tables hold tableStrings that can sound
+-- filled tables hold strings that can sound
 module _ (i : Instrument) (lengths : List ℕ) (coefficients : List Float) (few : i .«key_count» ≤ 16) (f : StringsFilled i lengths coefficients) where
   pub filled-fit : i .«string_count» ≤ 32 → AllFit lengths coefficients (i .«string_count»)
   filled-fit most = record {
@@ -56,7 +56,7 @@ module _ (i : Instrument) (lengths : List ℕ) (coefficients : List Float) (few 
     each = λ j h. rw (f .each j h) (let r : Keyed (stringIn i j) = record { sound = string-sound i j; key = rw (string-key i j) (owner-fits i j few) } in r);
   }
 
-  -- and are the instrument's tableStrings
+  -- and are the instrument's strings
   pub filled-strings : tableStrings lengths coefficients (i .«string_count») ≡ stringsOf i
   filled-strings = list-same (designAt lengths coefficients) (stringIn i) 0 (i .«string_count») (λ k h. f .each k (omega arith))
 

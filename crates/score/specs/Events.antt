@@ -60,13 +60,13 @@ pedalTo b p = record { held = p .held; «hand_damped» = p .«hand_damped»; «d
 abbrev pub onKey : Instrument → ℕ → (ℕ → State → State) → State → State
 onKey i x f s = cond (ltb (keyIndex (i .keys) 0 (i .«key_count») x) (i .«key_count»)) (f (keyIndex (i .keys) 0 (i .«key_count») x) s) s
 
--- tables of at most 32 tableStrings, with cells for them, and at most 16 keys
+-- tables of at most 32 strings, with cells for them, and at most 16 keys
 pub record Playable (i : Instrument) (lengths : List ℕ) (coefficients : List Float) (n : ℕ) (w : List Float) : Type 0 where
   pub keys : i .«key_count» ≤ 16
   pub few : n ≤ 32
   pub cells : cellsOf (tableStrings lengths coefficients n) ≤ length w
 
--- one event, on an instrument of the tableStrings ds
+-- one event, on an instrument of the strings ds
 unfoldable pub applied : Instrument → List StringDesign → Event → State → State
 applied i ds (NoteOn x v) s = onKey i x (λ k s. record { piano = struckKey k v (s .piano); cells = clearedAll k ds (s .cells) }) s
 applied i ds (NoteOff x) s = onKey i x (λ k s. record { piano = heldTo false k (s .piano); cells = s .cells }) s

@@ -1,4 +1,4 @@
-// The passes of one sample over all tableStrings: each takes the tableStrings' parts one after the other, and lends each string its own.
+// The passes of one sample over all strings: each takes the strings' parts one after the other, and lends each string its own.
 use points::Constants;
 use points::ForceSum;
 use points::HammerState;
@@ -9,7 +9,7 @@ ghost use Rattle.string.specs.Table.{tableStrings};
 ghost use Rattle.strings.specs.Strings.{AllFit, Indexed, cellsOf, turnedAll, forceAll, noForce, bridgeAll, bridgeForce};
 ghost use Rattle.float.specs.Float.{zero};
 
-// The indices of n tableStrings' lines at sample t, three a string, each by a division: once for a stretch of samples.
+// The indices of n strings' lines at sample t, three a string, each by a division: once for a stretch of samples.
 pub fn first_indices(
     lengths: &[usize; 160],
     coefficients: &[f64; 128],

@@ -1,4 +1,4 @@
--- `sample::bridge` meets its contract: sums, total, speeds, and the tableStrings' ends. Assumes nothing.
+-- `sample::bridge` meets its contract: sums, total, speeds, and the strings' ends. Assumes nothing.
 use Rattle.string.specs.Table.{tableStrings}
 use Rattle.keys.specs.Keys.{bridgeSpeeds}
 use borrow.Author.Needs.{needs}
