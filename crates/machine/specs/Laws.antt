@@ -1,18 +1,19 @@
--- Laws of the refusals and of the plain machine: what a passed test says; the machine stays sound; its refusals are 9 to 16; a go replays no more than it must. Assumes nothing.
+-- Laws of the refusals and of the plain machine: what a passed test says; the machine stays sound; its refusals are 9 to 16; a cue at an edit's position lives; a go replays no more than
+-- it must; and the machine before each call of a list. Assumes nothing.
 use mathlib.Core.Path.{_≡_, refl, sym, _∙_, ap}
-use mathlib.Core.Bool.{Bool, true, false, cond, not, _&&_}
+use mathlib.Core.Bool.{Bool, true, false, cond, not}
 use mathlib.Core.Logic.{_⊎_, inl, inr, ⊎-elim}
 use mathlib.Core.List.{List, [], _∷_}
 use Prim.Native.Nat.{ℕ, zero, suc, _+_, _-_, _≤_, _<_}
 use native.Mathlib.Omega.{arith}
-use lib.Dec.{eqb, leb, ltb}
-use borrow.Author.Tests.{lt-ltb, le-ltb, le-leb, lt-leb, ltb-true, ltb-false, leb-true, leb-false, not-false}
-use lib.ListN.{length, getD}
+use lib.Dec.{leb, ltb}
+use borrow.Author.Tests.{le-leb, ltb-false, leb-false, not-false}
+use lib.ListN.{length, take, getD}
 use Rattle.instrument.specs.declared.Instrument.{Instrument}
 use Rattle.score.specs.declared.TimedEvent.{TimedEvent}
 use Rattle.score.specs.Score.{noEvent}
-use Rattle.positions.specs.Positions.{end, count, isIn, others, above, upTo, greatest, distinct}
-use Rattle.positions.specs.Laws.{and-both, true-or-false, count-others, in-front, in-cons, in-cases, in-none, in-upTo, greatest-bound, greatest-upTo, distinct-upTo}
+use Rattle.positions.specs.Positions.{end, isIn, others, upTo, greatest, distinct}
+use Rattle.positions.specs.Laws.{and-both, true-or-false, in-front, in-cons, in-cases, in-none, in-upTo, greatest-bound, greatest-upTo, distinct-upTo}
 use Rattle.score_edits.specs.Edits.{soundVelocity, soundEvent, soundScore, placed, removed}
 use Rattle.score_edits.specs.Laws.{length-placed, length-removed, sound-placed, sound-removed, sound-position}
 use Rattle.machine.specs.Refusals.{refuseIf, orElse, scratchCells, playRefusal, cueRefusal, goRefusal, insertRefusal, removeRefusal}
@@ -99,8 +100,8 @@ module _ (p : Machine) (s : SoundMachine p) where
         inside = omega (arith, settled-low (p .t) (p .cues) q);
         score = sc;
         few = few;
-        below = λ x e. s .below x (in-upTo-in q x (p .cues) e);
-        apart = distinct-upTo q (p .cues) (s .apart);
+        below = λ x e. s .below x (in-upTo-in _ x (p .cues) e);
+        apart = distinct-upTo _ (p .cues) (s .apart);
       }
 
   sound-cue : (b : Bool) → isIn (p .t) (p .cues) ≡ b → SoundMachine (record { score = p .score; t = p .t; cues = cond b (p .cues) (p .t ∷ p .cues) })
@@ -198,9 +199,50 @@ allowed-does i p (Call.insert e) =
 allowed-does i p (Call.remove index) =
     unless-allowed (removeRefusal (length (p .score)) index) p _ (numbered-test (leb (length (p .score)) index) 14 (omega arith, omega arith)) (λ m e. let z : _≡_ {A = ℕ} 0 1 = cc in omega arith)
 
--- ---- "target minus start, never more than from 0, from the position before the go or from any kept cue, of those not above the target"
+-- ---- "Events at q act on sample q, so a cue at q lives."
+
+-- an edit at q leaves each cue that is not above q
+pub cue-lives : (p : Machine) (score : List TimedEvent) (q x : ℕ) → x ≤ q → isIn x (edit p score q .0 .cues) ≡ isIn x (p .cues)
+cue-lives p score q x h = in-upTo q x (p .cues) h
+
+-- ---- an accepted go: "target minus start, never more than from 0, from the position before the go or from any kept cue, of those not above the target"
 
 pub go-least : (t : ℕ) (cues : List ℕ) (p x : ℕ) → x ≤ p → (x ≡ 0) ⊎ (isIn x (t ∷ cues) ≡ true) → p - startOf t cues p ≤ p - x
 go-least t cues p x h m =
     ⊎-elim (λ (z : x ≡ 0). omega arith)
     (λ (z : isIn x (t ∷ cues) ≡ true). omega (arith, greatest-bound (upTo p (t ∷ cues)) x (in-upTo p x (t ∷ cues) h ∙ z), greatest-upTo p (t ∷ cues))) m
+
+-- what the number n of a go to p says of the machine before it
+pub record Replayed (m : Machine) (p n : ℕ) : Type 0 where
+  pub number : n ≡ p - startOf (m .t) (m .cues) p
+  pub least : (x : ℕ) → x ≤ p → (x ≡ 0) ⊎ (isIn x (m .t ∷ m .cues) ≡ true) → n ≤ p - x
+
+pub go-replays : (i : Instrument) (m : Machine) (scratch p n : ℕ) → does i m (Call.go scratch p) .1 ≡ Reply.went n → Replayed m p n
+unfolding does
+go-replays i m scratch p n = by-refusal (goRefusal i scratch p (startOf (m .t) (m .cues) p))
+  where
+    replayed : p - startOf (m .t) (m .cues) p ≡ n → Replayed m p n
+    replayed e = record { number = sym e; least = λ x h k. omega (arith, e, go-least (m .t) (m .cues) p x h k) }
+
+    by-refusal : (a : ℕ) → unless a m (record { score = m .score; t = p; cues = m .cues }, Reply.went (p - startOf (m .t) (m .cues) p)) .1 ≡ Reply.went n → Replayed m p n
+    by-refusal zero e = replayed cc
+    by-refusal (suc a) e = absurd (let z : _≡_ {A = ℕ} 0 1 = cc in omega arith)
+
+-- ---- a list of calls
+
+pub sound-final : (i : Instrument) (p : Machine) (cs : List Call) → SoundMachine p → SoundMachine (final i p cs)
+unfolding final
+sound-final i p [] s = s
+sound-final i p (c ∷ cs) s = sound-final i (does i p c .0) cs (sound-does p s i c)
+
+-- reply k is that of call k, after the first k calls
+pub replies-at : (i : Instrument) (p : Machine) (cs : List Call) (k : ℕ) → k < length cs → getD (replies i p cs) k Reply.cued ≡ does i (final i p (take k cs)) (getD cs k Call.cue) .1
+unfolding replies final
+replies-at i p [] k h = absurd (omega arith)
+replies-at i p (c ∷ cs) zero h = refl
+replies-at i p (c ∷ cs) (suc k) h = replies-at i (does i p c .0) cs k (omega arith)
+
+pub replies-length : (i : Instrument) (p : Machine) (cs : List Call) → length (replies i p cs) ≡ length cs
+unfolding replies
+replies-length i p [] = refl
+replies-length i p (c ∷ cs) = ap suc (replies-length i (does i p c .0) cs)

@@ -1,6 +1,6 @@
 -- Document 01, "The session": "a set of at most four cue positions"; "the greatest of 0, the kept cues ≤ p, and t if t ≤ p". Definitions only: assumes nothing.
 use mathlib.Core.Path.{_≡_}
-use mathlib.Core.Bool.{Bool, true, false, cond, not, _&&_}
+use mathlib.Core.Bool.{Bool, true, cond, not, _&&_}
 use mathlib.Core.List.{List, [], _∷_}
 use Prim.Native.Nat.{ℕ, suc, max}
 use lib.Dec.{eqb, leb, ltb}

@@ -1,5 +1,5 @@
 -- Document 01: "Each timed event holds a position and one of these four." The events that act on sample t are those at t: in a render from silence,
--- sample by sample, those "whose position is not above t" that have not acted yet are these.
+-- sample by sample, those "whose position is not above t" that have not acted yet are these (`walk-is` in Due.antt, of every sound score `sound-walk` in crate score_edits).
 use mathlib.Core.List.{List, [], _∷_}
 use mathlib.Core.Bool.{cond}
 use Prim.Native.Nat.{ℕ, _≤_, _<_}

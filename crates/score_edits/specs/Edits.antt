@@ -1,6 +1,6 @@
 -- Document 01, "The session": insert goes "after all events at or before its position q"; remove takes "the event at an index from 0, of position q". Refusals 7 and 13: "a position
 -- that falls or is above that end, a velocity of 13". Definitions only: assumes nothing.
-use mathlib.Core.Bool.{Bool, true, false, cond, _&&_}
+use mathlib.Core.Bool.{Bool, true, cond, _&&_}
 use mathlib.Core.List.{List, [], _∷_}
 use Prim.Native.Nat.{ℕ, zero, suc}
 use lib.Dec.{leb}

@@ -1,17 +1,19 @@
--- Laws of a score: an edit keeps it sound, and leaves the events before its position alone. Assumes nothing.
-use mathlib.Core.Path.{_≡_, refl, sym, _∙_, ap}
+-- Laws of a score: an edit keeps it sound, and leaves the events before its position alone; of a sound score, the events at t are those that document 01's walk applies there.
+-- Assumes nothing.
+use mathlib.Core.Path.{_≡_, refl, sym, ap}
 use mathlib.Core.Bool.{Bool, true, false, cond, _&&_}
-use mathlib.Core.List.{List, [], _∷_, _++_}
-use Prim.Native.Nat.{ℕ, zero, suc, _+_, _≤_, _<_}
+use mathlib.Core.List.{List, [], _∷_}
+use Prim.Native.Nat.{ℕ, zero, suc, _≤_, _<_}
 use native.Mathlib.Omega.{arith}
 use lib.Dec.{leb, eqb}
-use borrow.Author.Tests.{le-leb, lt-leb, ne-eqb, leb-true, leb-false}
-use lib.ListN.{length, take, drop, getD}
+use borrow.Author.Tests.{le-leb, ne-eqb, leb-true, leb-false}
+use lib.ListN.{length, getD}
 use Rattle.score.specs.declared.TimedEvent.{TimedEvent}
 use Rattle.score.specs.Score.{eventsAt}
+use Rattle.score.specs.Due.{due, leftAt, Rising, walk-is}
 use Rattle.positions.specs.Positions.{end}
 use Rattle.positions.specs.Laws.{and-true, and-both}
-use Rattle.score_edits.specs.Edits.{mayPrecede, placed, placeOf, removed, soundEvent, soundVelocity, soundAfter, soundScore}
+use Rattle.score_edits.specs.Edits.{mayPrecede, placed, removed, soundEvent, soundVelocity, soundAfter, soundScore}
 
 -- ---- the order: what these three say is all that is used of it
 
@@ -139,3 +141,20 @@ unfolding removed eventsAt
 removed-before [] n d k h g = refl
 removed-before (x ∷ xs) zero d k h g = rw (ne-eqb (x .position) k (λ z. omega arith))
 removed-before (x ∷ xs) (suc n) d k h g = rw (removed-before xs n d k (omega arith) g)
+
+-- ---- document 01, "One sample": "events whose position is not above t"
+
+-- positions that do not fall
+rising-after : (x : TimedEvent) (l : List TimedEvent) → soundAfter x l ≡ true → Rising (x .position) l
+unfolding Rising mayPrecede
+rising-after x [] e = tt
+rising-after x (y ∷ ys) e = let p = after-parts x y ys e in (leb-true (x .position) (y .position) (p .0), rising-after y ys (p .2))
+
+sound-rising : (l : List TimedEvent) → soundScore l ≡ true → Rising 0 l
+unfolding Rising
+sound-rising [] e = tt
+sound-rising (x ∷ xs) e = (omega arith, rising-after x xs (score-parts x xs e .1))
+
+-- of a sound score, the events at t are those that the walk over it applies at sample t
+pub sound-walk : (l : List TimedEvent) (t : ℕ) → soundScore l ≡ true → eventsAt l t ≡ due t (leftAt l t)
+sound-walk l t e = sym (walk-is l t (sound-rising l e))

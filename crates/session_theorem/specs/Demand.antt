@@ -1,21 +1,21 @@
 -- DEMAND 3, "The piano behind a cue": for every list of play, cue, go, insert and remove calls, refused ones included, from a session just opened. The statement is `demand-3`, at the
 -- end; its words are in Runs.antt. Assumes nothing.
 use mathlib.Core.Path.{_≡_, refl, sym, _∙_, ap}
-use mathlib.Core.Bool.{true, false}
-use mathlib.Core.List.{List, [], _∷_}
-use Prim.Native.Nat.{ℕ, zero, suc, _+_, _*_, _<_, _≤_}
+use mathlib.Core.Bool.{false}
+use mathlib.Core.List.{List, []}
+use Prim.Native.Nat.{ℕ, zero, suc, _<_}
 use native.Mathlib.Omega.{arith}
 use lib.Ieee.{Float}
-use lib.ListN.{length, take, drop, getD}
+use lib.ListN.{length, take, getD}
 use Rattle.instrument.specs.declared.Instrument.{Instrument}
-use Rattle.instrument.specs.Valid.{valid}
 use Rattle.instrument.specs.Work.{partCells}
 use Rattle.score.specs.declared.Piano.{Piano}
-use Rattle.render.specs.Render.{silentPiano, silence, renderState}
+use Rattle.render.specs.Render.{silentPiano, silence}
 use Rattle.positions.specs.Positions.{count}
 use Rattle.positions.specs.Laws.{true-or-false}
 use Rattle.machine.specs.Machine.{Machine, Call, Reply, opened, does, final, replies}
-use Rattle.machine.specs.Laws.{Allowed, sound-opened, allowed-does}
+use Rattle.score_edits.specs.Laws.{sound-walk}
+use Rattle.machine.specs.Laws.{sound-opened, sound-final, allowed-does, go-replays, replies-at, replies-length}
 use Rattle.session_cues.specs.Cues.{keptOf}
 use Rattle.session_record.specs.declared.Session.{Session}
 use Rattle.session_record.specs.Record.{openRefusal}
@@ -24,10 +24,10 @@ use Rattle.session.specs.declared.Answer.the-variants.{Opened}
 use Rattle.session.specs.declared.Outcome.{Outcome}
 use Rattle.session.specs.Calls.{emptyCue, freshSession, OpenMeets}
 use Rattle.session.specs.Laws.{render-zero, silent-length, silent-piano}
-use Rattle.session_theorem.specs.Runs.{Runs, Follows, Claim}
+use Rattle.session_theorem.specs.Runs.{Runs, standing, Claim}
 use Rattle.session_theorem.specs.Memory.{front-now, front-length}
 use Rattle.session_theorem.specs.Stands.{Stands}
-use Rattle.session_theorem.specs.Steps.{play-step, cue-step, go-step, insert-step, remove-step}
+use Rattle.session_theorem.specs.Steps.{call-step}
 
 -- ---- the list as a whole
 
@@ -35,34 +35,10 @@ runs-follow : (i : Instrument) {s s″ : Session} {work work″ : List Float} {c
     → (rs ≡ replies i p cs) × Stands i s″ work″ (final i p cs)
 unfolding replies final
 runs-follow i Runs.done p g = (refl, g)
-runs-follow i (Runs.play {s = s} {work = work} {work′ = work′} {out = out} {out′ = out′} {trace = trace} {trace′ = trace′} {scratch = scratch} {r = r} h rest) p g =
-    let t = play-step i s work p g scratch out trace work′ out′ trace′ r h in
+runs-follow i (Runs.next {s = s} {work = work} c out trace r work′ out′ trace′ h rest) p g =
+    let t = call-step i s work p g c out trace r work′ out′ trace′ h in
     let u = runs-follow i rest _ (t .0) in
     (cc (t .1, u .0), u .1)
-runs-follow i (Runs.cue {s = s} {work = work} {work′ = work′} {r = r} h rest) p g =
-    let t = cue-step i s work p g work′ r h in
-    let u = runs-follow i rest _ (t .0) in
-    (cc (t .1, u .0), u .1)
-runs-follow i (Runs.go {s = s} {work = work} {work′ = work′} {scratch = scratch} {p = q} {r = r} h rest) p g =
-    let t = go-step i s work p g scratch q work′ r h in
-    let u = runs-follow i rest _ (t .0) in
-    (cc (t .1, u .0), u .1)
-runs-follow i (Runs.insert {s = s} {work = work} {work′ = work′} {e = e} {r = r} h rest) p g =
-    let t = insert-step i s work p g e work′ r h in
-    let u = runs-follow i rest _ (t .0) in
-    (cc (t .1, u .0), u .1)
-runs-follow i (Runs.remove {s = s} {work = work} {work′ = work′} {index = index} {r = r} h rest) p g =
-    let t = remove-step i s work p g index work′ r h in
-    let u = runs-follow i rest _ (t .0) in
-    (cc (t .1, u .0), u .1)
-
--- ---- the machine's replies
-
-replies-allowed : (i : Instrument) (p : Machine) (cs : List Call) (k : ℕ) → k < length (replies i p cs) → Allowed (getD (replies i p cs) k Reply.cued)
-unfolding replies
-replies-allowed i p [] k h = absurd (omega arith)
-replies-allowed i p (c ∷ cs) zero h = allowed-does i p c
-replies-allowed i p (c ∷ cs) (suc k) h = replies-allowed i (does i p c .0) cs k (omega arith)
 
 -- ---- a session just opened
 
@@ -96,7 +72,8 @@ opened-stands i work work′ r h e =
         score = rw here refl;
         position = rw here refl;
         cues = λ f. rw here (ap (count f) (fresh-keeps silentPiano));
-        now = rw (here, front-now (partCells i) (silence i .cells) work work′ (a .1) (silent-length i (fine .0)) (fine .1)) (ap (λ q. record { piano = q; cells = silence i .cells }) (silent-piano i) ∙ sym (render-zero i []));
+        now = rw (here, front-now (partCells i) (silence i .cells) work work′ (a .1) (silent-length i (fine .0)) (fine .1))
+            (ap (λ q. record { piano = q; cells = silence i .cells }) (silent-piano i) ∙ sym (render-zero i []));
         held = λ j l k. true-or-false _ (rw here at k) (fresh-empty silentPiano j l);
       };
       machine = sound-opened;
@@ -110,13 +87,18 @@ opened-stands i work work′ r h e =
 -- ---- the theorem
 
 -- For every instrument and work memory with which open is accepted, and for every list of calls run from there, each by its function's contract: the replies are the plain
--- machine's, the program's session and memory are the plain machine's, and every refusal is from 9 to 16.
+-- machine's, the program's session and memory are the plain machine's, every refusal is from 9 to 16, each accepted go replays no more than it must, and the events that act on a
+-- sample are those of document 01's rule.
 pub demand-3 : (i : Instrument) (work work′ : List Float) (r : Outcome) → OpenMeets i work r work′ → r .answer ≡ Opened
     → {cs : List Call} {rs : List Reply} {s : Session} {work″ : List Float} → Runs i (r .session) work′ cs rs s work″ → Claim i cs rs s work″
 demand-3 i work work′ r h e {cs} {rs} t =
     let u = runs-follow i t opened (opened-stands i work work′ r h e) in
+    let reply : (k : ℕ) → k < length cs → getD rs k Reply.cued ≡ does i (standing i cs k) (getD cs k Call.cue) .1 =
+    λ k l. ap (λ x. getD x k Reply.cued) (u .0) ∙ replies-at i opened cs k l in
     record {
       answers = u .0;
       after = u .1 .follows;
-      allowed = rw (u .0) (replies-allowed i opened cs);
+      allowed = λ k l. rw (reply k (omega (arith, l, ap length (u .0), replies-length i opened cs))) (allowed-does i (standing i cs k) (getD cs k Call.cue));
+      replayed = λ k scratch p n l c f. go-replays i (standing i cs k) scratch p n (ap (λ x. does i (standing i cs k) x .1) (sym c) ∙ sym (reply k l) ∙ f);
+      walked = λ k t. sound-walk (standing i cs k .score) t (sound-final i opened (take k cs) sound-opened .score);
     }

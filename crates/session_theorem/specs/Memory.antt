@@ -1,14 +1,36 @@
--- Work memory after a call: a new first part, or a new part of a cue; the others stay. Assumes nothing.
-use mathlib.Core.Path.{_≡_, refl, sym, _∙_, ap}
-use mathlib.Core.Bool.{Bool, true, false}
+-- Work memory after a call: a new first part, or a new part of a cue; the others, and the cells beyond the fifth, stay. Assumes nothing.
+use mathlib.Core.Path.{_≡_, refl, _∙_, ap}
+use mathlib.Core.Bool.{true}
 use mathlib.Core.List.{List, _++_}
 use Prim.Native.Nat.{ℕ, zero, suc, _+_, _-_, _*_, _<_, _≤_}
 use native.Mathlib.Omega.{arith}
 use native.Mathlib.Nat.{zero-add}
 use lib.Ieee.{Float}
 use lib.ListN.{length, take, drop}
-use Rattle.cells.specs.Splice.{part, splice, length-splice, part-splice, part-past, part-before}
+use Rattle.cells.specs.Splice.{part, splice, length-splice, part-splice, drop-past, part-past, part-before}
+use Rattle.instrument.specs.declared.Instrument.{Instrument}
+use Rattle.instrument.specs.Valid.{valid}
+use Rattle.instrument.specs.Work.{partCells}
+use Rattle.score.specs.declared.TimedEvent.{TimedEvent}
+use Rattle.score.specs.Events.{State}
+use Rattle.render.specs.Render.{run}
+use Rattle.render.specs.Laws.{run-length}
+use Rattle.render.specs.Work.{cells-are}
+use Rattle.machine.specs.Refusals.{orElse}
+use Rattle.machine.specs.Laws.{else-zero}
+use Rattle.session_record.specs.declared.Session.{Session}
+use Rattle.session_record.specs.Record.{recordRefusal}
+use Rattle.session_record.specs.Laws.{Passed, passed}
 use Rattle.session.specs.Laws.{part-order, slot-fits, slot-past}
+
+-- an accepted call: 7 and 8 did not come
+pub accepted-passes : (i : Instrument) (s : Session) (cells n : ℕ) → orElse (recordRefusal i s cells) n ≡ 0 → Passed i s cells
+accepted-passes i s cells n z = passed i s cells (else-zero (recordRefusal i s cells) n z .0)
+
+-- a run keeps a part's W cells
+pub run-cells : (i : Instrument) → valid i ≡ true → (score : List TimedEvent) (t n : ℕ) (st : State) → length (st .cells) ≡ partCells i
+    → length (run i score t n st .cells) ≡ partCells i
+run-cells i ok score t n st e = run-length i score t n st (omega (arith, cells-are i ok, e)) ∙ e
 
 -- the first part anew
 module _ (w : ℕ) (cells work work′ : List Float) (e : work′ ≡ cells ++ drop w work) (size : length cells ≡ w) (room : 5 * w ≤ length work) where
@@ -20,6 +42,9 @@ module _ (w : ℕ) (cells work work′ : List Float) (e : work′ ≡ cells ++ d
 
   pub front-length : length work′ ≡ length work
   front-length = ap length e ∙ length-splice 0 w w cells work (zero-add w) size (omega arith)
+
+  pub front-beyond : drop (5 * w) work′ ≡ drop (5 * w) work
+  front-beyond = ap (drop (5 * w)) e ∙ drop-past 0 w w cells work (zero-add w) size (omega arith) (5 * w) (omega arith)
 
 -- the part of slot f anew
 module _ (w f : ℕ) (cells work work′ : List Float) (e : work′ ≡ splice ((f + 1) * w) w cells work) (size : length cells ≡ w) (there : f < 4) (room : 5 * w ≤ length work) where
@@ -44,3 +69,6 @@ module _ (w f : ℕ) (cells work work′ : List Float) (e : work′ ≡ splice (
 
   pub slot-length : length work′ ≡ length work
   slot-length = ap length e ∙ length-splice ((f + 1) * w) w ((f + 1) * w + w) cells work refl size fits
+
+  pub slot-beyond : drop (5 * w) work′ ≡ drop (5 * w) work
+  slot-beyond = ap (drop (5 * w)) e ∙ drop-past ((f + 1) * w) w ((f + 1) * w + w) cells work refl size fits (5 * w) (slot-fits f w (5 * w) there (omega arith))

@@ -1,38 +1,43 @@
--- Refusal 7, "a handed-in record, whose fields are open": what lies past the counts of a session decides nothing. Two sessions that agree up to there get the same refusals and answers, the
--- same memory, samples and forces, and agree again afterwards, whatever the events past the count and the slots that keep no cue hold. Assumes nothing.
+-- "None of them can alter an answer": what document 01 leaves free decides nothing, nor what lies past the counts of a session, "a handed-in record, whose fields are open". Two sessions
+-- with work memories that agree up to their counts get the same replies from every list of calls, and agree again afterwards. Assumes nothing.
 use mathlib.Core.Path.{_≡_, refl, sym, _∙_, ap}
 use mathlib.Core.Bool.{Bool, true, false, cond, _&&_}
 use mathlib.Core.List.{List, [], _∷_, _++_, map}
 use Prim.Native.Nat.{ℕ, zero, suc, _+_, _-_, _*_, _<_, _≤_}
 use native.Mathlib.Omega.{arith}
-use lib.Dec.{eqb, ltb}
-use borrow.Author.Tests.{ltb-true}
+use lib.Dec.{eqb, leb, ltb}
+use borrow.Author.Tests.{eqb-true, eqb-false, ltb-true}
 use lib.Ieee.{Float}
-use lib.ListN.{length, take, drop, getD, set, length-append, length-drop}
-use lib.Seq.{take-at, length-take-le}
-use Rattle.cells.specs.Splice.{part}
+use lib.ListN.{length, take, drop, getD, set, length-set, length-map, List·getD-map}
+use lib.Seq.{take-at, length-take-le, getD-set-other}
+use Rattle.cells.specs.Splice.{part, splice}
 use Rattle.instrument.specs.declared.Instrument.{Instrument}
 use Rattle.instrument.specs.Work.{partCells}
 use Rattle.score.specs.declared.TimedEvent.{TimedEvent}
-use Rattle.score.specs.declared.Piano.{Piano}
 use Rattle.score.specs.Events.{State}
 use Rattle.score.specs.Score.{noEvent}
+use Rattle.render.specs.Render.{silence, run, forces}
 use Rattle.positions.specs.Positions.{isIn}
-use Rattle.positions.specs.Laws.{true-or-false}
+use Rattle.positions.specs.Laws.{and-true, true-or-false}
 use Rattle.score_edits.specs.Edits.{placed, removed}
-use Rattle.score_edits.specs.Laws.{length-placed, length-removed}
-use Rattle.machine.specs.Refusals.{orElse, playRefusal, cueRefusal, goRefusal, insertRefusal, removeRefusal}
-use Rattle.machine.specs.Machine.{startOf, settled}
+use Rattle.machine.specs.Refusals.{cueRefusal}
+use Rattle.machine.specs.Machine.{Call, Reply, startOf, settled}
 use Rattle.machine.specs.Laws.{else-zero, insert-passed, remove-passed}
 use Rattle.session_cues.specs.declared.Cue.{Cue}
 use Rattle.session_cues.specs.Cues.{keptOf, standsAt, slotAt, freeSlot, dropAbove, soundCue, soundCues}
-use Rattle.session_cues.specs.Laws.{slot-in}
+use Rattle.session_cues.specs.Laws.{slot-in, slot-kept}
 use Rattle.session_record.specs.declared.Session.{Session}
 use Rattle.session_record.specs.Record.{scoreOf, soundSession, recordRefusal}
-use Rattle.session_record.specs.Laws.{passed}
+use Rattle.session_record.specs.Laws.{Passed}
 use Rattle.session.specs.declared.Outcome.{Outcome}
-use Rattle.session.specs.Calls.{keptBy, emptyCue, cueAt, stateNow, stateCue, heldAt, refusedWith, PlayMeets, Cues, CueMeets, GoMeets, Edits, InsertMeets, RemoveMeets}
-use Rattle.render.specs.Render.{silence}
+use Rattle.session.specs.Calls.{keptBy, emptyCue, cueAt, stateNow, stateCue, heldAt, refusedWith, Plays, PlayMeets, Cues, CueMeets, Goes, GoMeets, Edits, InsertMeets, RemoveMeets}
+use Rattle.session.specs.Laws.{get-any, held-length}
+use Rattle.energies.specs.declared.EnergiesAnswer.{EnergiesAnswer}
+use Rattle.energies.specs.Energy.{noEnergiesFor, EnergiesMeet}
+use Rattle.energies.specs.Laws.{first-part-decides}
+use Rattle.session_theorem.specs.Runs.{replyOf, CallMeets, Runs}
+use Rattle.session_theorem.specs.Memory.{front-now, front-cue, front-length, slot-now, slot-new, slot-other, slot-length, accepted-passes, run-cells}
+use Rattle.session_theorem.specs.Arrays.{placed-score, placed-long, removed-score, removed-long, free-slot-there}
 
 -- slot by slot: the same cue is kept in both, or none in either
 pub data SameCues : List Cue → List Cue → Type 0 where
@@ -40,16 +45,24 @@ pub data SameCues : List Cue → List Cue → Type 0 where
   kept : {c : Cue} {a b : List Cue} → SameCues a b → SameCues (c ∷ a) (c ∷ b)
   free : {c d : Cue} {a b : List Cue} → c .kept ≡ false → d .kept ≡ false → SameCues a b → SameCues (c ∷ a) (d ∷ b)
 
--- two sessions that agree up to their counts
-pub record Alike (s s′ : Session) : Type 0 where
+-- two work memories, as long as each other, with the same first part and the same part for each kept cue; parts of slots that keep none, and cells beyond the five parts, may differ
+pub record SameMemory (w : ℕ) (cues : List Cue) (work work′ : List Float) : Type 0 where
+  pub cells : length work ≡ length work′
+  pub now : take w work ≡ take w work′
+  pub held : (j : ℕ) (d : Cue) → j < length cues → getD cues j d .kept ≡ true → part ((j + 1) * w) w work ≡ part ((j + 1) * w) w work′
+
+-- two sessions, each with its work memory, that agree up to their counts; events past the count and slots that keep no cue may differ
+pub record Alike (i : Instrument) (s : Session) (work : List Float) (s′ : Session) (work′ : List Float) : Type 0 where
   pub position : s .t ≡ s′ .t
   pub number : s .count ≡ s′ .count
   pub score : scoreOf s ≡ scoreOf s′
   pub cues : SameCues (s .cues) (s′ .cues)
   pub piano : s .piano ≡ s′ .piano
-  -- both have 64 places for events, as every session
+  pub memory : SameMemory (partCells i) (s .cues) work work′
+  -- both have 64 places for events and four slots, as every session
   pub long : length (s .events) ≡ 64
   pub long′ : length (s′ .events) ≡ 64
+  pub four : length (s .cues) ≡ 4
 
 -- ---- what is asked of the slots
 
@@ -96,34 +109,40 @@ same-piano x d e (SameCues.free {c = c} {d = c′} {a = a} {b = b} k m h) l = go
     go true q e _ _ _ = true-or-false true refl e
     go false true _ e _ _ = true-or-false true refl e
 
--- ---- what is asked of a session
+-- ---- what is asked of a session and its memory
 
-pub same-refusal : (i : Instrument) (s s′ : Session) (cells : ℕ) → Alike s s′ → recordRefusal i s cells ≡ recordRefusal i s′ cells
-unfolding recordRefusal soundSession
-same-refusal i s s′ cells a = rw (a .score, a .number, a .position, a .piano, same-sound (i .«key_count») (a .cues)) refl
+module _ (i : Instrument) (s : Session) (work : List Float) (s′ : Session) (work′ : List Float) (a : Alike i s work s′ work′) where
+  pub same-refusal : recordRefusal i s (length work) ≡ recordRefusal i s′ (length work′)
+  unfolding recordRefusal soundSession
+  same-refusal = rw (a .score, a .number, a .position, a .piano, same-sound (i .«key_count») (a .cues), a .memory .cells) refl
 
-pub same-cues : (s s′ : Session) → Alike s s′ → keptBy s ≡ keptBy s′
-same-cues s s′ a = same-kept (a .cues)
+  same-cues : keptBy s ≡ keptBy s′
+  same-cues = same-kept (a .cues)
 
-pub same-held : (i : Instrument) (s s′ : Session) (work : List Float) (x : ℕ) → Alike s s′ → heldAt i s work x ≡ heldAt i s′ work x
-unfolding heldAt
-same-held i s s′ work x a = rw (sym (a .position), sym (same-cues s s′ a)) (go (isIn x (keptBy s)) (slot-in x (s .cues)))
-  where
-    same-cue : slotAt x (s .cues) < length (s .cues) → stateCue i s work (slotAt x (s .cues)) ≡ stateCue i s′ work (slotAt x (s′ .cues))
-    same-cue l =
-        ap {B = State} (λ q. record { piano = q; cells = part ((slotAt x (s .cues) + 1) * partCells i) (partCells i) work }) (same-piano x (emptyCue (s .piano)) (emptyCue (s′ .piano)) (a .cues) l)
-        ∙ ap {B = State} (λ n. record { piano = cueAt s′ (slotAt x (s′ .cues)) .piano; cells = part ((n + 1) * partCells i) (partCells i) work }) (same-slot x (a .cues))
+  same-now : stateNow i s work ≡ stateNow i s′ work′
+  same-now =
+      ap {B = State} (λ q. record { piano = q; cells = take (partCells i) work }) (a .piano)
+      ∙ ap {B = State} (λ l. record { piano = s′ .piano; cells = l }) (a .memory .now)
 
-    same-now : stateNow i s work ≡ stateNow i s′ work
-    same-now = ap {B = State} (λ q. record { piano = q; cells = take (partCells i) work }) (a .piano)
+  same-held : (x : ℕ) → heldAt i s work x ≡ heldAt i s′ work′ x
+  unfolding heldAt
+  same-held x = rw (sym (a .position), sym same-cues) (go (isIn x (keptBy s)) (slot-in x (s .cues)))
+    where
+      same-slot-state : slotAt x (s .cues) < length (s .cues) → stateCue i s work (slotAt x (s .cues)) ≡ stateCue i s′ work′ (slotAt x (s′ .cues))
+      same-slot-state l =
+          let d = emptyCue (s .piano) in
+          let kept = slot-kept x (s .cues) d l .0 in
+          ap {B = State} (λ q. record { piano = q; cells = part ((slotAt x (s .cues) + 1) * partCells i) (partCells i) work }) (same-piano x d (emptyCue (s′ .piano)) (a .cues) l)
+          ∙ ap {B = State} (λ c. record { piano = cueAt s′ (slotAt x (s′ .cues)) .piano; cells = c }) (a .memory .held (slotAt x (s .cues)) d l kept)
+          ∙ ap {B = State} (λ n. record { piano = cueAt s′ (slotAt x (s′ .cues)) .piano; cells = part ((n + 1) * partCells i) (partCells i) work′ }) (same-slot x (a .cues))
 
-    go : (b : Bool) → ltb (slotAt x (s .cues)) (length (s .cues)) ≡ b
-        → cond (eqb x (s .t)) (stateNow i s work) (cond b (stateCue i s work (slotAt x (s .cues))) (silence i))
-        ≡ cond (eqb x (s .t)) (stateNow i s′ work) (cond b (stateCue i s′ work (slotAt x (s′ .cues))) (silence i))
-    go false e = ap (λ q. cond (eqb x (s .t)) q (silence i)) same-now
-    go true e =
-        ap (λ q. cond (eqb x (s .t)) q (stateCue i s work (slotAt x (s .cues)))) same-now
-        ∙ ap (λ q. cond (eqb x (s .t)) (stateNow i s′ work) q) (same-cue (ltb-true (slotAt x (s .cues)) (length (s .cues)) e))
+      go : (b : Bool) → ltb (slotAt x (s .cues)) (length (s .cues)) ≡ b
+          → cond (eqb x (s .t)) (stateNow i s work) (cond b (stateCue i s work (slotAt x (s .cues))) (silence i))
+          ≡ cond (eqb x (s .t)) (stateNow i s′ work′) (cond b (stateCue i s′ work′ (slotAt x (s′ .cues))) (silence i))
+      go false e = ap (λ q. cond (eqb x (s .t)) q (silence i)) same-now
+      go true e =
+          ap (λ q. cond (eqb x (s .t)) q (stateCue i s work (slotAt x (s .cues)))) same-now
+          ∙ ap (λ q. cond (eqb x (s .t)) (stateNow i s′ work′) q) (same-slot-state (ltb-true (slotAt x (s .cues)) (length (s .cues)) e))
 
 -- ---- what a call leaves
 
@@ -139,181 +158,304 @@ drop-same q SameCues.no-more = SameCues.no-more
 drop-same q (SameCues.kept h) = SameCues.kept (drop-same q h)
 drop-same q (SameCues.free {c = c} {d = d} e f h) = SameCues.free {c = dropAbove q c} {d = dropAbove q d} (rw e refl) (rw f refl) (drop-same q h)
 
--- the score that an insert or a remove leaves, in 64 places again
-score-size : (s : Session) → s .count ≤ 64 → length (s .events) ≡ 64 → length (scoreOf s) ≡ s .count
-score-size s few l = length-take-le (s .count) (s .events) (omega (arith, few, l))
+module _ (w : ℕ) (cues : List Cue) (work work′ left left′ : List Float) (m : SameMemory w cues work work′) (room : 5 * w ≤ length work) where
+  room′ : 5 * w ≤ length work′
+  room′ = omega (arith, room, m .cells)
 
-module _ (s : Session) (e : TimedEvent) (few : s .count < 64) (long : length (s .events) ≡ 64) where
-  placed-size : length (placed (scoreOf s) e) ≡ s .count + 1
-  placed-size = omega (arith, length-placed (scoreOf s) e, score-size s (omega (arith, few)) long)
+  abbrev first : List Float
+  first = take w work
 
-  placed-score : take (s .count + 1) (placed (scoreOf s) e ++ drop (s .count + 1) (s .events)) ≡ placed (scoreOf s) e
-  placed-score = take-at (placed (scoreOf s) e) (drop (s .count + 1) (s .events)) (s .count + 1) placed-size
+  abbrev first′ : List Float
+  first′ = take w work′
 
-  placed-long : length (placed (scoreOf s) e ++ drop (s .count + 1) (s .events)) ≡ 64
-  placed-long = omega (arith, length-append (placed (scoreOf s) e) (drop (s .count + 1) (s .events)), length-drop (s .count + 1) (s .events), placed-size, long, few)
+  -- both with the same state's cells as their new first part
+  front-same : (st st′ : State) → st′ ≡ st → length (st .cells) ≡ w → left ≡ st .cells ++ drop w work → left′ ≡ st′ .cells ++ drop w work′ → SameMemory w cues left left′
+  front-same st st′ same size e h =
+      let e′ : left′ ≡ st .cells ++ drop w work′ = h ∙ ap (λ x. x .cells ++ drop w work′) same in
+      record {
+        cells = front-length w (st .cells) work left e size room ∙ m .cells ∙ sym (front-length w (st .cells) work′ left′ e′ size room′);
+        now = front-now w (st .cells) work left e size room ∙ sym (front-now w (st .cells) work′ left′ e′ size room′);
+        held = λ j d l k. front-cue w (st .cells) work left e size room j ∙ m .held j d l k ∙ sym (front-cue w (st .cells) work′ left′ e′ size room′ j);
+      }
 
-module _ (s : Session) (index : ℕ) (there : index < s .count) (few : s .count ≤ 64) (long : length (s .events) ≡ 64) where
-  removed-size : length (removed (scoreOf s) index) ≡ s .count - 1
-  removed-size =
-      let n = score-size s few long in
-      omega (arith, length-removed (scoreOf s) index (omega (arith, there, n)), n)
+  -- both with their first part put into slot f, which keeps the cue c
+  slot-same : (f : ℕ) (c : Cue) → f < 4 → left ≡ splice ((f + 1) * w) w (take w work) work → left′ ≡ splice ((f + 1) * w) w (take w work′) work′
+      → SameMemory w (set cues f c) left left′
+  slot-same f c low e e′ =
+      record {
+        cells = slot-length w f first work left e size low room ∙ m .cells ∙ sym (slot-length w f first′ work′ left′ e′ size′ low room′);
+        now = slot-now w f first work left e size low room ∙ m .now ∙ sym (slot-now w f first′ work′ left′ e′ size′ low room′);
+        held = λ j d l k. slot-held j d l k (eqb j f) refl;
+      }
+    where
+      size : length first ≡ w
+      size = length-take-le w work (omega (arith, room))
 
-  removed-score : take (s .count - 1) (removed (scoreOf s) index ++ drop (s .count - 1) (s .events)) ≡ removed (scoreOf s) index
-  removed-score = take-at (removed (scoreOf s) index) (drop (s .count - 1) (s .events)) (s .count - 1) removed-size
+      size′ : length first′ ≡ w
+      size′ = length-take-le w work′ (omega (arith, room′))
 
-  removed-long : length (removed (scoreOf s) index ++ drop (s .count - 1) (s .events)) ≡ 64
-  removed-long = omega (arith, length-append (removed (scoreOf s) index) (drop (s .count - 1) (s .events)), length-drop (s .count - 1) (s .events), removed-size, long, few, there)
+      slot-held : (j : ℕ) (d : Cue) → j < length (set cues f c) → getD (set cues f c) j d .kept ≡ true → (b : Bool) → eqb j f ≡ b
+          → part ((j + 1) * w) w left ≡ part ((j + 1) * w) w left′
+      slot-held j d l k true q =
+          rw (eqb-true j f q) (slot-new w f first work left e size low room ∙ m .now ∙ sym (slot-new w f first′ work′ left′ e′ size′ low room′))
+      slot-held j d l k false q =
+          let away = eqb-false j f q in
+          let kept = ap (λ x. x .kept) (sym (getD-set-other cues f j c d away)) ∙ k in
+          slot-other w f first work left e size low room j away ∙ m .held j d (omega (arith, l, length-set cues f c)) kept
+          ∙ sym (slot-other w f first′ work′ left′ e′ size′ low room′ j away)
 
--- an accepted insert finds room, an accepted remove its event
-insert-room : (i : Instrument) (s : Session) (work : List Float) (e : TimedEvent) → orElse (recordRefusal i s (length work)) (insertRefusal (s .count) e) ≡ 0 → s .count < 64
-insert-room i s work e z = insert-passed (s .count) e (else-zero (recordRefusal i s (length work)) (insertRefusal (s .count) e) z .1) .1
+-- fewer cues are kept
+fewer-same : (w q : ℕ) (cues : List Cue) (work work′ : List Float) → SameMemory w cues work work′ → SameMemory w (map (dropAbove q) cues) work work′
+fewer-same w q cues work work′ m = record { cells = m .cells; now = m .now; held = held }
+  where
+    held : (j : ℕ) (d : Cue) → j < length (map (dropAbove q) cues) → getD (map (dropAbove q) cues) j d .kept ≡ true → part ((j + 1) * w) w work ≡ part ((j + 1) * w) w work′
+    held j d l k =
+        let c = get-any (map (dropAbove q) cues) j d (dropAbove q d) l ∙ List·getD-map (dropAbove q) cues j d in
+        let b = and-true (getD cues j d .kept) (leb (getD cues j d .position) q) (ap (λ x. x .kept) (sym c) ∙ k) in
+        m .held j d (omega (arith, l, length-map cues (dropAbove q))) (b .0)
 
-remove-there : (i : Instrument) (s : Session) (work : List Float) (index : ℕ) → orElse (recordRefusal i s (length work)) (removeRefusal (s .count) index) ≡ 0
-    → (index < s .count) × (s .count ≤ 64)
-remove-there i s work index z =
-    let k = else-zero (recordRefusal i s (length work)) (removeRefusal (s .count) index) z in
-    (remove-passed (s .count) index (k .1), passed i s (length work) (k .0) .few)
-
--- two outcomes of one call: the same answer, sessions that agree, the same memory
-pub record SameOutcome (r r′ : Outcome) (work work′ : List Float) : Type 0 where
+-- two outcomes of one call: the same answer, with the same samples and forces where it is play's; sessions and memories that agree again
+pub record SameOutcome (i : Instrument) (r : Outcome) (work out trace : List Float) (r′ : Outcome) (work′ out′ trace′ : List Float) : Type 0 where
   pub answer : r .answer ≡ r′ .answer
-  pub session : Alike (r .session) (r′ .session)
-  pub memory : work ≡ work′
+  pub reply : replyOf (r .answer) out trace ≡ replyOf (r′ .answer) out′ trace′
+  pub after : Alike i (r .session) work (r′ .session) work′
 
-module _ (i : Instrument) (s s′ : Session) (work : List Float) (a : Alike s s′) where
-  -- where the one is refused, the other is, by the same number
-  by-refusal : (n n′ : ℕ) (r r′ : Outcome) (left left′ : List Float) → n ≡ n′ → ((n ≡ 0 → ⊥) → (r ≡ refusedWith s n) × (left ≡ work)) → ((n′ ≡ 0 → ⊥) → (r′ ≡ refusedWith s′ n′) × (left′ ≡ work))
-      → (n ≡ 0 → n′ ≡ 0 → SameOutcome r r′ left left′) → SameOutcome r r′ left left′
-  by-refusal zero n′ r r′ left left′ e h h′ d = d refl (sym e)
-  by-refusal (suc n) n′ r r′ left left′ e h h′ d =
-      let k = h (λ z. omega arith) in
-      let k′ = h′ (λ z. omega (arith, e)) in
-      record { answer = rw (k .0, k′ .0, e) refl; session = rw (k .0, k′ .0) a; memory = k .1 ∙ sym (k′ .1) }
+-- a call by its number, the same for both: either both are refused or both are accepted
+by-number : {R R′ P : Type 0} (n n′ : ℕ) → ((n ≡ 0 → ⊥) → R) → ((n′ ≡ 0 → ⊥) → R′) → n ≡ n′ → (n ≡ n′ → R → R′ → P)
+    → (n ≡ 0 → n′ ≡ 0 → P) → P
+by-number zero n′ h h′ e refuses accepts = accepts refl (sym e)
+by-number (suc n) n′ h h′ e refuses accepts = refuses e (h (λ z. omega arith)) (h′ (λ z. omega (arith, z, e)))
 
-  same-now : stateNow i s work ≡ stateNow i s′ work
-  same-now = ap {B = State} (λ q. record { piano = q; cells = take (partCells i) work }) (a .piano)
+module _ (i : Instrument) (s : Session) (work : List Float) (s′ : Session) (work′ : List Float) (a : Alike i s work s′ work′) where
+  abbrev W : ℕ
+  W = partCells i
 
-  module _ (scratch : ℕ) (out trace : List Float) (r r′ : Outcome) (left left′ out₁ out₂ trace₁ trace₂ : List Float)
-      (h : PlayMeets i s work scratch out trace r left out₁ trace₁) (h′ : PlayMeets i s′ work scratch out trace r′ left′ out₂ trace₂) where
-    play-number : orElse (recordRefusal i s (length work)) (playRefusal i (s .t) scratch (length out) (length trace))
-        ≡ orElse (recordRefusal i s′ (length work)) (playRefusal i (s′ .t) scratch (length out) (length trace))
-    play-number = rw (same-refusal i s s′ (length work) a, a .position) refl
+  -- refused, by the same number
+  refused : (n n′ : ℕ) (r r′ : Outcome) (left left′ out trace out′ trace′ : List Float) → n ≡ n′
+      → (r ≡ refusedWith s n) × (left ≡ work) → (r′ ≡ refusedWith s′ n′) × (left′ ≡ work′) → SameOutcome i r left out trace r′ left′ out′ trace′
+  refused n n′ r r′ left left′ out trace out′ trace′ e k k′ =
+      record { answer = rw (k .0, k′ .0, e) refl; reply = rw (k .0, k′ .0, e) refl; after = rw (k .0, k .1, k′ .0, k′ .1) a }
 
-    pub same-play : SameOutcome r r′ left left′
+  -- ---- play, with outputs and traces as long as each other
+  module _ (scratch : ℕ) (out trace out₀ trace₀ : List Float) (r r′ : Outcome) (left left′ out₁ trace₁ out₂ trace₂ : List Float)
+      (outs : length out ≡ length out₀) (traces : length trace ≡ length trace₀) (h : PlayMeets i s work scratch out trace r left out₁ trace₁)
+      (h′ : PlayMeets i s′ work′ scratch out₀ trace₀ r′ left′ out₂ trace₂) where
+    module _ (d : Plays i s work out trace r left out₁ trace₁) (d′ : Plays i s′ work′ out₀ trace₀ r′ left′ out₂ trace₂) (p : Passed i s (length work)) where
+      abbrev ran : State
+      ran = run i (scoreOf s) (s .t) (length out) (stateNow i s work)
+
+      same-ran : run i (scoreOf s′) (s′ .t) (length out₀) (stateNow i s′ work′) ≡ ran
+      same-ran = rw (a .score, a .position, same-now i s work s′ work′ a, outs) refl
+
+      abbrev pushed : List Float
+      pushed = forces i (scoreOf s) (s .t) (length out) (stateNow i s work)
+
+      same-pushed : forces i (scoreOf s′) (s′ .t) (length out₀) (stateNow i s′ work′) ≡ pushed
+      same-pushed = rw (a .score, a .position, same-now i s work s′ work′ a, outs) refl
+
+      same-sounded : out₁ ≡ out₂
+      same-sounded = rw (d .sound, d′ .sound, a .score, a .position, same-now i s work s′ work′ a, outs) refl
+
+      -- the first k cells of either trace
+      traced : take (length pushed) trace₁ ≡ pushed
+      traced = ap (take (length pushed)) (d .pushes) ∙ take-at pushed (drop (length pushed) trace) (length pushed) refl
+
+      traced′ : take (length pushed) trace₂ ≡ pushed
+      traced′ =
+          ap (take (length pushed)) (d′ .pushes ∙ ap (λ l. l ++ drop (length l) trace₀) same-pushed) ∙ take-at pushed (drop (length pushed) trace₀) (length pushed) refl
+
+      play-accepted : SameOutcome i r left out₁ trace₁ r′ left′ out₂ trace₂
+      play-accepted =
+          record {
+            answer = rw (d .answer, d′ .answer, same-pushed) refl;
+            reply = rw (d .answer, d′ .answer, same-pushed, same-sounded, traced, traced′) refl;
+            after = rw (d .session, d′ .session)
+                (record {
+                  position = rw (a .position, outs) refl;
+                  number = a .number;
+                  score = a .score;
+                  cues = a .cues;
+                  piano = rw same-ran refl;
+                  memory = front-same W (s .cues) work work′ left left′ (a .memory) (p .room) ran _ same-ran
+                      (run-cells i (p .sound) (scoreOf s) (s .t) (length out) (stateNow i s work) (length-take-le W work (omega (arith, p .room)))) (d .memory) (d′ .memory);
+                  long = a .long;
+                  long′ = a .long′;
+                  four = a .four;
+                });
+          }
+
+    pub same-play : SameOutcome i r left out₁ trace₁ r′ left′ out₂ trace₂
     same-play =
-        by-refusal _ _ r r′ left left′ play-number (λ z. let k = h .refuses z in (k .0, k .1)) (λ z. let k = h′ .refuses z in (k .0, k .1))
-        (λ z z′.
-        let d = h .accepts z in
-        let d′ = h′ .accepts z′ in
+        by-number _ _ (h .refuses) (h′ .refuses) (rw (same-refusal i s work s′ work′ a, a .position, outs, traces) refl)
+        (λ e k k′. refused _ _ r r′ left left′ out₁ trace₁ out₂ trace₂ e (k .0, k .1) (k′ .0, k′ .1))
+        (λ z z′. play-accepted (h .accepts z) (h′ .accepts z′) (accepted-passes i s (length work) _ z))
+
+  -- ---- cue
+  module _ (out trace out₀ trace₀ : List Float) (r r′ : Outcome) (left left′ : List Float) (h : CueMeets i s work r left) (h′ : CueMeets i s′ work′ r′ left′) where
+    cue-accepted : (b : Bool) → isIn (s .t) (keptBy s) ≡ b → Cues i s work r left → Cues i s′ work′ r′ left′ → Passed i s (length work) → cueRefusal (s .t) (keptBy s) ≡ 0
+        → SameOutcome i r left out trace r′ left′ out₀ trace₀
+    cue-accepted true e d d′ p z =
+        let k = d .again e in
+        let k′ = d′ .again (rw (sym (a .position), sym (same-cues i s work s′ work′ a)) e) in
+        record { answer = d .answer ∙ sym (d′ .answer); reply = rw (d .answer, d′ .answer) refl; after = rw (k .0, k .1, k′ .0, k′ .1) a }
+    cue-accepted false e d d′ p z =
+        let k = d .adds e in
+        let k′ = d′ .adds (rw (sym (a .position), sym (same-cues i s work s′ work′ a)) e) in
+        let slot = freeSlot (s .cues) in
+        let new : Cue = record { kept = true; position = s .t; piano = s .piano } in
         record {
-          answer = rw (d .answer, d′ .answer, a .score, a .position, same-now) refl;
-          session = rw (d .session, d′ .session)
+          answer = d .answer ∙ sym (d′ .answer);
+          reply = rw (d .answer, d′ .answer) refl;
+          after = rw (k .0, k′ .0)
               (record {
-                position = rw (a .position) refl;
+                position = a .position;
+                number = a .number;
+                score = a .score;
+                cues = rw (sym (same-free (a .cues)), sym (a .position), sym (a .piano)) (set-same slot new (a .cues));
+                piano = a .piano;
+                memory = slot-same W (s .cues) work work′ left left′ (a .memory) (p .room) slot new (free-slot-there (s .t) (s .cues) (a .four) e z) (k .1)
+                    (rw (sym (same-free (a .cues))) at (k′ .1));
+                long = a .long;
+                long′ = a .long′;
+                four = length-set (s .cues) slot new ∙ a .four;
+              });
+        }
+
+    pub same-cue : SameOutcome i r left out trace r′ left′ out₀ trace₀
+    same-cue =
+        by-number _ _ (h .refuses) (h′ .refuses) (rw (same-refusal i s work s′ work′ a, a .position, same-cues i s work s′ work′ a) refl)
+        (λ e k k′. refused _ _ r r′ left left′ out trace out₀ trace₀ e k k′)
+        (λ z z′. cue-accepted (isIn (s .t) (keptBy s)) refl (h .accepts z) (h′ .accepts z′) (accepted-passes i s (length work) _ z) (else-zero (recordRefusal i s (length work)) _ z .1))
+
+  -- ---- go
+  module _ (scratch q : ℕ) (out trace out₀ trace₀ : List Float) (r r′ : Outcome) (left left′ : List Float)
+      (h : GoMeets i s work scratch q r left) (h′ : GoMeets i s′ work′ scratch q r′ left′) where
+    abbrev start : ℕ
+    start = startOf (s .t) (keptBy s) q
+
+    same-start : startOf (s′ .t) (keptBy s′) q ≡ start
+    same-start = rw (a .position, same-cues i s work s′ work′ a) refl
+
+    go-accepted : Goes i s work q start r left → Goes i s′ work′ q (startOf (s′ .t) (keptBy s′) q) r′ left′ → Passed i s (length work)
+        → SameOutcome i r left out trace r′ left′ out₀ trace₀
+    go-accepted d d′ p =
+        let ran = run i (scoreOf s) start (q - start) (heldAt i s work start) in
+        let same-ran : run i (scoreOf s′) (startOf (s′ .t) (keptBy s′) q) (q - startOf (s′ .t) (keptBy s′) q) (heldAt i s′ work′ (startOf (s′ .t) (keptBy s′) q)) ≡ ran =
+        rw (same-start, a .score, same-held i s work s′ work′ a start) refl in
+        record {
+          answer = rw (d .answer, d′ .answer, same-start) refl;
+          reply = rw (d .answer, d′ .answer, same-start) refl;
+          after = rw (d .session, d′ .session)
+              (record {
+                position = refl;
                 number = a .number;
                 score = a .score;
                 cues = a .cues;
-                piano = rw (a .score, a .position, same-now) refl;
+                piano = rw same-ran refl;
+                memory = front-same W (s .cues) work work′ left left′ (a .memory) (p .room) ran _ same-ran
+                    (run-cells i (p .sound) (scoreOf s) start (q - start) (heldAt i s work start) (held-length i s work start (a .four) (p .sound) (p .room))) (d .memory) (d′ .memory);
                 long = a .long;
                 long′ = a .long′;
+                four = a .four;
               });
-          memory = rw (d .memory, d′ .memory, a .score, a .position, same-now) refl;
-        })
+        }
 
-    pub same-block : (out₁ ≡ out₂) × (trace₁ ≡ trace₂)
-    same-block = go _ refl
-      where
-        go : (n : ℕ) → orElse (recordRefusal i s (length work)) (playRefusal i (s .t) scratch (length out) (length trace)) ≡ n → (out₁ ≡ out₂) × (trace₁ ≡ trace₂)
-        go zero e =
-            let d = h .accepts e in
-            let d′ = h′ .accepts (sym play-number ∙ e) in
-            (rw (d .sound, d′ .sound, a .score, a .position, same-now) refl, rw (d .pushes, d′ .pushes, a .score, a .position, same-now) refl)
-        go (suc n) e =
-            let k = h .refuses (λ z. omega (arith, z, e)) in
-            let k′ = h′ .refuses (λ z. omega (arith, z, e, play-number)) in
-            (k .2 ∙ sym (k′ .2), k .3 ∙ sym (k′ .3))
+    pub same-go : SameOutcome i r left out trace r′ left′ out₀ trace₀
+    same-go =
+        by-number _ _ (h .refuses) (h′ .refuses) (rw (same-refusal i s work s′ work′ a, same-start) refl)
+        (λ e k k′. refused _ _ r r′ left left′ out trace out₀ trace₀ e k k′)
+        (λ z z′. go-accepted (h .accepts z) (h′ .accepts z′) (accepted-passes i s (length work) _ z))
 
-  pub same-cue : (r r′ : Outcome) (left left′ : List Float) → CueMeets i s work r left → CueMeets i s′ work r′ left′ → SameOutcome r r′ left left′
-  same-cue r r′ left left′ h h′ =
-      by-refusal _ _ r r′ left left′ (rw (same-refusal i s s′ (length work) a, a .position, same-cues s s′ a) refl) (h .refuses) (h′ .refuses)
-      (λ z z′. go (isIn (s .t) (keptBy s)) refl (h .accepts z) (h′ .accepts z′))
+  -- ---- insert and remove: an edit at q that leaves the same score in 64 places
+  module _ (q number number′ : ℕ) (events events′ : List TimedEvent) (out trace out₀ trace₀ : List Float) (r r′ : Outcome) (left left′ : List Float) where
+    abbrev t′ : ℕ
+    t′ = settled (s .t) (keptBy s) q
+
+    same-t : settled (s′ .t) (keptBy s′) q ≡ t′
+    same-t = rw (a .position, same-cues i s work s′ work′ a) refl
+
+    edit-accepted : Edits i s work q number events r left → Edits i s′ work′ q number′ events′ r′ left′ → Passed i s (length work)
+        → number ≡ number′ → take number events ≡ take number′ events′ → length events ≡ 64 → length events′ ≡ 64
+        → SameOutcome i r left out trace r′ left′ out₀ trace₀
+    edit-accepted d d′ p e f l l′ =
+        let held = heldAt i s work t′ in
+        let same : heldAt i s′ work′ (settled (s′ .t) (keptBy s′) q) ≡ held = rw (same-t, same-held i s work s′ work′ a t′) refl in
+        record {
+          answer = rw (d .answer, d′ .answer, same-t, same-cues i s work s′ work′ a) refl;
+          reply = rw (d .answer, d′ .answer, same-t, same-cues i s work s′ work′ a) refl;
+          after = rw (d .session, d′ .session)
+              (record {
+                position = sym same-t;
+                number = e;
+                score = f;
+                cues = drop-same q (a .cues);
+                piano = rw same refl;
+                memory = front-same W (map (dropAbove q) (s .cues)) work work′ left left′ (fewer-same W q (s .cues) work work′ (a .memory)) (p .room) held _ same
+                    (held-length i s work t′ (a .four) (p .sound) (p .room)) (d .memory) (d′ .memory);
+                long = l;
+                long′ = l′;
+                four = length-map (s .cues) (dropAbove q) ∙ a .four;
+              });
+        }
+
+  module _ (e : TimedEvent) (out trace out₀ trace₀ : List Float) (r r′ : Outcome) (left left′ : List Float)
+      (h : InsertMeets i s work e r left) (h′ : InsertMeets i s′ work′ e r′ left′) where
+    pub same-insert : SameOutcome i r left out trace r′ left′ out₀ trace₀
+    same-insert =
+        by-number _ _ (h .refuses) (h′ .refuses) (rw (same-refusal i s work s′ work′ a, a .number) refl)
+        (λ e k k′. refused _ _ r r′ left left′ out trace out₀ trace₀ e k k′)
+        (λ z z′.
+        let few : s .count < 64 = insert-passed (s .count) e (else-zero (recordRefusal i s (length work)) _ z .1) .1 in
+        let few′ : s′ .count < 64 = omega (arith, few, a .number) in
+        edit-accepted (e .position) _ _ _ _ out trace out₀ trace₀ r r′ left left′ (h .accepts z) (h′ .accepts z′) (accepted-passes i s (length work) _ z) (ap (λ n. n + 1) (a .number))
+        (placed-score s e few (a .long) ∙ ap (λ l. placed l e) (a .score) ∙ sym (placed-score s′ e few′ (a .long′)))
+        (placed-long s e few (a .long)) (placed-long s′ e few′ (a .long′)))
+
+  module _ (index : ℕ) (out trace out₀ trace₀ : List Float) (r r′ : Outcome) (left left′ : List Float)
+      (h : RemoveMeets i s work index r left) (h′ : RemoveMeets i s′ work′ index r′ left′) where
+    pub same-remove : SameOutcome i r left out trace r′ left′ out₀ trace₀
+    same-remove =
+        by-number _ _ (h .refuses) (h′ .refuses) (rw (same-refusal i s work s′ work′ a, a .number) refl)
+        (λ e k k′. refused _ _ r r′ left left′ out trace out₀ trace₀ e k k′)
+        (λ z z′.
+        let p = accepted-passes i s (length work) _ z in
+        let there : index < s .count = remove-passed (s .count) index (else-zero (recordRefusal i s (length work)) _ z .1) in
+        let there′ : index < s′ .count = omega (arith, there, a .number) in
+        let few′ : s′ .count ≤ 64 = omega (arith, p .few, a .number) in
+        let at-q : getD (scoreOf s) index noEvent .position ≡ getD (scoreOf s′) index noEvent .position = ap (λ l. getD l index noEvent .position) (a .score) in
+        edit-accepted (getD (scoreOf s′) index noEvent .position) _ _ _ _ out trace out₀ trace₀ r r′ left left′ (rw at-q at (h .accepts z)) (h′ .accepts z′) p
+        (ap (λ n. n - 1) (a .number))
+        (removed-score s index there (p .few) (a .long) ∙ ap (λ l. removed l index) (a .score) ∙ sym (removed-score s′ index there′ few′ (a .long′)))
+        (removed-long s index there (p .few) (a .long)) (removed-long s′ index there′ few′ (a .long′)))
+
+  -- ---- any call
+  pub same-call : (c : Call) (out trace out₀ trace₀ : List Float) (r r′ : Outcome) (left left′ out₁ trace₁ out₂ trace₂ : List Float)
+      → CallMeets i s work c out trace r left out₁ trace₁ → CallMeets i s′ work′ c out₀ trace₀ r′ left′ out₂ trace₂
+      → SameOutcome i r left out₁ trace₁ r′ left′ out₂ trace₂
+  same-call (Call.play scratch m n) out trace out₀ trace₀ r r′ left left′ out₁ trace₁ out₂ trace₂ h h′ =
+      same-play scratch out trace out₀ trace₀ r r′ left left′ out₁ trace₁ out₂ trace₂ (h .0 ∙ sym (h′ .0)) (h .1 ∙ sym (h′ .1)) (h .2) (h′ .2)
+  same-call Call.cue out trace out₀ trace₀ r r′ left left′ out₁ trace₁ out₂ trace₂ h h′ = same-cue out₁ trace₁ out₂ trace₂ r r′ left left′ h h′
+  same-call (Call.go scratch q) out trace out₀ trace₀ r r′ left left′ out₁ trace₁ out₂ trace₂ h h′ = same-go scratch q out₁ trace₁ out₂ trace₂ r r′ left left′ h h′
+  same-call (Call.insert e) out trace out₀ trace₀ r r′ left left′ out₁ trace₁ out₂ trace₂ h h′ = same-insert e out₁ trace₁ out₂ trace₂ r r′ left left′ h h′
+  same-call (Call.remove index) out trace out₀ trace₀ r r′ left left′ out₁ trace₁ out₂ trace₂ h h′ = same-remove index out₁ trace₁ out₂ trace₂ r r′ left left′ h h′
+
+  -- ---- energies
+  pub same-energies : (r r′ : EnergiesAnswer) → EnergiesMeet i s work r → EnergiesMeet i s′ work′ r′ → r ≡ r′
+  same-energies r r′ h h′ = first-part-decides i s′ work work′ r r′ (a .memory .cells) (a .memory .now) moved h′
     where
-      go : (b : Bool) → isIn (s .t) (keptBy s) ≡ b → Cues i s work r left → Cues i s′ work r′ left′ → SameOutcome r r′ left left′
-      go true e d d′ =
-          let k = d .again e in
-          let k′ = d′ .again (rw (sym (a .position), sym (same-cues s s′ a)) e) in
-          record { answer = d .answer ∙ sym (d′ .answer); session = rw (k .0, k′ .0) a; memory = k .1 ∙ sym (k′ .1) }
-      go false e d d′ =
-          let k = d .adds e in
-          let k′ = d′ .adds (rw (sym (a .position), sym (same-cues s s′ a)) e) in
-          record {
-            answer = d .answer ∙ sym (d′ .answer);
-            session = rw (k .0, k′ .0)
-                (record {
-                  position = a .position;
-                  number = a .number;
-                  score = a .score;
-                  cues = rw (sym (same-free (a .cues)), sym (a .position), sym (a .piano)) (set-same (freeSlot (s .cues)) (record { kept = true; position = s .t; piano = s .piano }) (a .cues));
-                  piano = a .piano;
-                  long = a .long;
-                  long′ = a .long′;
-                });
-            memory = rw (k .1, k′ .1, same-free (a .cues)) refl;
-          }
+      number : recordRefusal i s (length work) ≡ recordRefusal i s′ (length work)
+      number = same-refusal i s work s′ work′ a ∙ ap (recordRefusal i s′) (sym (a .memory .cells))
 
-  pub same-go : (scratch p : ℕ) (r r′ : Outcome) (left left′ : List Float) → GoMeets i s work scratch p r left → GoMeets i s′ work scratch p r′ left′ → SameOutcome r r′ left left′
-  same-go scratch p r r′ left left′ h h′ =
-      by-refusal _ _ r r′ left left′ (rw (same-refusal i s s′ (length work) a, a .position, same-cues s s′ a) refl) (h .refuses) (h′ .refuses)
-      (λ z z′.
-      let d = h .accepts z in
-      let d′ = h′ .accepts z′ in
-      let from : startOf (s .t) (keptBy s) p ≡ startOf (s′ .t) (keptBy s′) p = rw (a .position, same-cues s s′ a) refl in
-      let held = same-held i s s′ work (startOf (s .t) (keptBy s) p) a ∙ ap (heldAt i s′ work) from in
-      record {
-        answer = rw (d .answer, d′ .answer, from) refl;
-        session = rw (d .session, d′ .session)
-            (record {
-              position = refl;
-              number = a .number;
-              score = a .score;
-              cues = a .cues;
-              piano = rw (held, from, a .score) refl;
-              long = a .long;
-              long′ = a .long′;
-            });
-        memory = rw (d .memory, d′ .memory, held, from, a .score) refl;
-      })
+      moved : EnergiesMeet i s′ work r
+      moved = record { refuses = λ n. h .refuses (λ z. n (sym number ∙ z)) ∙ ap noEnergiesFor number; accepts = λ z. h .accepts (number ∙ z) }
 
-  -- an edit at q that leaves the same score in 64 places
-  same-edit : (q number number′ : ℕ) (events events′ : List TimedEvent) (r r′ : Outcome) (left left′ : List Float) → Edits i s work q number events r left → Edits i s′ work q number′ events′ r′ left′
-      → number ≡ number′ → take number events ≡ take number′ events′ → length events ≡ 64 → length events′ ≡ 64 → SameOutcome r r′ left left′
-  same-edit q number number′ events events′ r r′ left left′ d d′ e f l l′ =
-      let at-t : settled (s .t) (keptBy s) q ≡ settled (s′ .t) (keptBy s′) q = rw (a .position, same-cues s s′ a) refl in
-      let held = same-held i s s′ work (settled (s .t) (keptBy s) q) a ∙ ap (heldAt i s′ work) at-t in
-      record {
-        answer = rw (d .answer, d′ .answer, at-t, same-cues s s′ a) refl;
-        session = rw (d .session, d′ .session)
-            (record { position = at-t; number = e; score = f; cues = drop-same q (a .cues); piano = rw held refl; long = l; long′ = l′ });
-        memory = rw (d .memory, d′ .memory, held) refl;
-      }
+-- ---- the list as a whole
 
-  pub same-insert : (e : TimedEvent) (r r′ : Outcome) (left left′ : List Float) → InsertMeets i s work e r left → InsertMeets i s′ work e r′ left′ → SameOutcome r r′ left left′
-  same-insert e r r′ left left′ h h′ =
-      by-refusal _ _ r r′ left left′ (rw (same-refusal i s s′ (length work) a, a .number) refl) (h .refuses) (h′ .refuses)
-      (λ z z′.
-      let few = insert-room i s work e z in
-      let few′ = insert-room i s′ work e z′ in
-      same-edit (e .position) _ _ _ _ r r′ left left′ (h .accepts z) (h′ .accepts z′) (ap (λ n. n + 1) (a .number))
-      (placed-score s e few (a .long) ∙ ap (λ l. placed l e) (a .score) ∙ sym (placed-score s′ e few′ (a .long′))) (placed-long s e few (a .long)) (placed-long s′ e few′ (a .long′)))
-
-  pub same-remove : (index : ℕ) (r r′ : Outcome) (left left′ : List Float) → RemoveMeets i s work index r left → RemoveMeets i s′ work index r′ left′ → SameOutcome r r′ left left′
-  same-remove index r r′ left left′ h h′ =
-      by-refusal _ _ r r′ left left′ (rw (same-refusal i s s′ (length work) a, a .number) refl) (h .refuses) (h′ .refuses)
-      (λ z z′.
-      let there = remove-there i s work index z in
-      let there′ = remove-there i s′ work index z′ in
-      let at-q : getD (scoreOf s) index noEvent .position ≡ getD (scoreOf s′) index noEvent .position = ap (λ l. getD l index noEvent .position) (a .score) in
-      same-edit (getD (scoreOf s′) index noEvent .position) _ _ _ _ r r′ left left′ (rw at-q at (h .accepts z)) (h′ .accepts z′) (ap (λ n. n - 1) (a .number))
-      (removed-score s index (there .0) (there .1) (a .long) ∙ ap (λ l. removed l index) (a .score) ∙ sym (removed-score s′ index (there′ .0) (there′ .1) (a .long′)))
-      (removed-long s index (there .0) (there .1) (a .long)) (removed-long s′ index (there′ .0) (there′ .1) (a .long′)))
+-- the same calls from sessions and memories that agree: the same replies, and they agree afterwards
+pub same-runs : (i : Instrument) {s s′ s₁ s₂ : Session} {work work′ work₁ work₂ : List Float} {cs : List Call} {rs rs′ : List Reply}
+    → Runs i s work cs rs s₁ work₁ → Runs i s′ work′ cs rs′ s₂ work₂ → Alike i s work s′ work′ → (rs ≡ rs′) × Alike i s₁ work₁ s₂ work₂
+same-runs i Runs.done Runs.done a = (refl, a)
+same-runs i (Runs.next {s = s} {work = work} c out trace r left out₁ trace₁ h rest) (Runs.next {s = s′} {work = work′} _ out₀ trace₀ r′ left′ out₂ trace₂ h′ rest′) a =
+    let t = same-call i s work s′ work′ a c out trace out₀ trace₀ r r′ left left′ out₁ trace₁ out₂ trace₂ h h′ in
+    let u = same-runs i rest rest′ (t .after) in
+    (cc (t .reply, u .0), u .1)

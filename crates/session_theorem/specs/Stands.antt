@@ -1,33 +1,30 @@
 -- What stands between two calls: the program follows the machine, which is sound; so 7 and 8 do not come, and every held state is the render's. Assumes nothing.
-use mathlib.Core.Path.{_≡_, refl, sym, _∙_, ap}
-use mathlib.Core.Bool.{Bool, true, false}
-use mathlib.Core.Logic.{_⊎_, inl, inr, ⊎-elim}
-use mathlib.Core.List.{List, [], _∷_}
-use Prim.Native.Nat.{ℕ, zero, suc, _+_, _*_, _<_, _≤_}
+use mathlib.Core.Path.{_≡_, sym, _∙_, ap}
+use mathlib.Core.Bool.{true}
+use mathlib.Core.Logic.{_⊎_, ⊎-elim}
+use mathlib.Core.List.{List, _∷_}
+use Prim.Native.Nat.{ℕ, _*_, _<_, _≤_}
 use native.Mathlib.Omega.{arith}
-use lib.Dec.{eqb}
 use borrow.Author.Tests.{eqb-true, eqb-false}
 use lib.Ieee.{Float}
-use lib.ListN.{length, take, drop, getD}
-use lib.Seq.{length-take-le}
+use lib.ListN.{length}
 use Rattle.instrument.specs.declared.Instrument.{Instrument}
 use Rattle.instrument.specs.Valid.{valid}
 use Rattle.instrument.specs.Work.{partCells}
-use Rattle.score.specs.declared.TimedEvent.{TimedEvent}
-use Rattle.score.specs.Events.{State}
-use Rattle.render.specs.Render.{silence, renderState}
-use Rattle.positions.specs.Positions.{end, isIn, upTo, greatest, distinct, Same}
+use Rattle.render.specs.Render.{renderState}
+use Rattle.positions.specs.Positions.{end, isIn}
 use Rattle.positions.specs.Laws.{true-or-false, in-cases, in-same, distinct-same}
 use Rattle.session_cues.specs.Cues.{slotAt, soundPiano}
 use Rattle.session_cues.specs.Laws.{slot-kept, kept-in, cues-pass}
 use Rattle.machine.specs.Machine.{Machine}
 use Rattle.machine.specs.Laws.{SoundMachine}
 use Rattle.session_record.specs.declared.Session.{Session}
-use Rattle.session_record.specs.Record.{scoreOf, recordRefusal}
+use Rattle.session_record.specs.Record.{recordRefusal}
 use Rattle.session_record.specs.Laws.{passes}
 use Rattle.session.specs.Calls.{keptBy, emptyCue, cueAt, stateNow, stateCue, heldAt}
 use Rattle.session.specs.Laws.{rendered-sound, render-zero, held-cases, slot-there}
 use Rattle.session_theorem.specs.Runs.{Follows}
+use Rattle.session_theorem.specs.Arrays.{score-size}
 
 pub record Stands (i : Instrument) (s : Session) (work : List Float) (p : Machine) : Type 0 where
   pub follows : Follows i s work p
@@ -80,4 +77,4 @@ module _ (i : Instrument) (s : Session) (work : List Float) (p : Machine) (g : S
       m)
 
   pub score-length : length (p .score) ≡ s .count
-  score-length = ap length (sym (f .score)) ∙ length-take-le (s .count) (s .events) (omega (arith, g .few, g .long))
+  score-length = ap length (sym (f .score)) ∙ score-size s (g .few) (g .long)

@@ -1,15 +1,15 @@
 -- One call: the program that follows the machine follows it after the call too, and gives the machine's reply. Assumes nothing.
 use mathlib.Core.Path.{_≡_, refl, sym, _∙_, ap}
-use mathlib.Core.Bool.{Bool, true, false, cond, not, _&&_}
+use mathlib.Core.Bool.{Bool, true, false, cond, not}
 use mathlib.Core.Logic.{_⊎_, inl, inr, ⊎-elim}
-use mathlib.Core.List.{List, [], _∷_, _++_, map}
+use mathlib.Core.List.{List, _∷_, _++_, map}
 use Prim.Native.Nat.{ℕ, zero, suc, _+_, _-_, _*_, _<_, _≤_}
 use native.Mathlib.Omega.{arith}
 use native.Mathlib.Nat.{add-sub-of-le}
 use lib.Dec.{eqb, leb, ltb}
-use borrow.Author.Tests.{eqb-true, eqb-false, leb-true, ltb-false, ltb-true, lt-ltb}
+use borrow.Author.Tests.{eqb-true, eqb-false, leb-true}
 use lib.Ieee.{Float}
-use lib.ListN.{length, take, drop, getD, set, length-append, length-drop, length-set, length-map, List·getD-map}
+use lib.ListN.{length, take, drop, getD, set, length-set, length-map, List·getD-map}
 use lib.Seq.{take-at, drop-at, length-take-le, getD-set-same, getD-set-other}
 use Rattle.cells.specs.Splice.{part}
 use Rattle.instrument.specs.declared.Instrument.{Instrument}
@@ -19,23 +19,23 @@ use Rattle.score.specs.Events.{State}
 use Rattle.score.specs.Score.{noEvent, eventsAt}
 use Rattle.render.specs.Render.{run, samples, forces, silence, renderState, renderSamples, renderForces}
 use Rattle.render.specs.Laws.{samples-length, render-then, render-local, render-samples, render-forces}
-use Rattle.positions.specs.Positions.{end, count, isIn, others, above, upTo, greatest, Same}
-use Rattle.positions.specs.Laws.{and-true, true-or-false, same-cons, same-upTo, in-front, in-cons, in-cases, in-same, in-upTo, greatest-same, greatest-member, greatest-upTo, count-others}
+use Rattle.positions.specs.Positions.{count, isIn, upTo, greatest}
+use Rattle.positions.specs.Laws.{and-true, same-cons, same-upTo, in-front, in-cons, in-same, in-upTo, greatest-same, greatest-member, greatest-upTo}
 use Rattle.score_edits.specs.Edits.{placed, removed}
-use Rattle.score_edits.specs.Laws.{length-placed, length-removed, placed-before, removed-before}
+use Rattle.score_edits.specs.Laws.{placed-before, removed-before}
 use Rattle.machine.specs.Refusals.{orElse, playRefusal, cueRefusal, goRefusal, insertRefusal, removeRefusal}
 use Rattle.machine.specs.Machine.{Machine, Call, Reply, startOf, settled, edit, unless, does, blockSamples, blockForces}
-use Rattle.machine.specs.Laws.{SoundMachine, sound-does, settled-low, cue-passed, insert-passed, remove-passed}
+use Rattle.machine.specs.Laws.{SoundMachine, sound-does, settled-low, insert-passed, remove-passed}
 use Rattle.session_cues.specs.declared.Cue.{Cue}
-use Rattle.session_cues.specs.Cues.{keptOf, freeSlot, dropAbove}
-use Rattle.session_cues.specs.Laws.{free-slot-free, free-slot-full, kept-set, kept-drop}
+use Rattle.session_cues.specs.Cues.{freeSlot, dropAbove}
+use Rattle.session_cues.specs.Laws.{free-slot-free, kept-set, kept-drop}
 use Rattle.session_record.specs.declared.Session.{Session}
 use Rattle.session_record.specs.Record.{scoreOf, recordRefusal}
-use Rattle.session.specs.declared.Answer.{Answer}
 use Rattle.session.specs.declared.Outcome.{Outcome}
-use Rattle.session.specs.Calls.{keptBy, emptyCue, cueAt, stateNow, stateCue, heldAt, refusedWith, Plays, PlayMeets, Cues, CueMeets, Goes, GoMeets, Edits, InsertMeets, RemoveMeets}
+use Rattle.session.specs.Calls.{keptBy, emptyCue, cueAt, stateNow, heldAt, refusedWith, Plays, PlayMeets, Cues, CueMeets, Goes, GoMeets, Edits, InsertMeets, RemoveMeets}
 use Rattle.session.specs.Laws.{get-any, rendered-length}
-use Rattle.session_theorem.specs.Runs.{replyOf, Follows}
+use Rattle.session_theorem.specs.Runs.{replyOf, CallMeets, Follows}
+use Rattle.session_theorem.specs.Arrays.{placed-score, placed-long, removed-score, removed-long, free-slot-there}
 use Rattle.session_theorem.specs.Memory.{front-now, front-cue, front-length, slot-now, slot-new, slot-other, slot-length}
 use Rattle.session_theorem.specs.Stands.{Stands, standing-passes, held-render, score-length}
 
@@ -79,7 +79,8 @@ module _ (i : Instrument) (s s′ : Session) (work work′ : List Float) (p p′
       }
     where
       kept : (j : ℕ) → j < 4 → getD (s .cues) j (emptyCue (st .piano)) .kept ≡ true
-          → record { piano = getD (s .cues) j (emptyCue (st .piano)) .piano; cells = part ((j + 1) * partCells i) (partCells i) work } ≡ renderState i (p .score) (getD (s .cues) j (emptyCue (st .piano)) .position)
+          → record { piano = getD (s .cues) j (emptyCue (st .piano)) .piano; cells = part ((j + 1) * partCells i) (partCells i) work }
+          ≡ renderState i (p .score) (getD (s .cues) j (emptyCue (st .piano)) .position)
       kept j l k =
           let d = get-any (s .cues) j (emptyCue (st .piano)) (emptyCue (s .piano)) (omega (arith, g .four)) in
           rw d (g .follows .held j l (ap (λ c. c .kept) (sym d) ∙ k))
@@ -128,7 +129,7 @@ module _ (i : Instrument) (s : Session) (work : List Float) (p : Machine) (g : S
           let k : take (length pushed) trace′ ≡ pushed = ap (take (length pushed)) (d .pushes) ∙ take-at pushed (drop (length pushed) trace) (length pushed) refl in
           rw (d .answer, k, pushed-is, sounded-is)
 
-    pub play-step : Stands i (r .session) work′ (does i p playing .0) × (replyOf (r .answer) out′ trace′ ≡ does i p playing .1)
+    play-step : Stands i (r .session) work′ (does i p playing .0) × (replyOf (r .answer) out′ trace′ ≡ does i p playing .1)
     unfolding does
     play-step =
         by-refusal i s work p _ (playRefusal i (p .t) scratch m (length trace)) _ r work′ out′ trace′ g play-same
@@ -139,7 +140,7 @@ module _ (i : Instrument) (s : Session) (work : List Float) (p : Machine) (g : S
         play-sound z = rw z at (sound-does p (g .machine) i playing)
 
   -- ---- cue
-  module _ (work′ : List Float) (r : Outcome) (h : CueMeets i s work r work′) where
+  module _ (work′ out trace : List Float) (r : Outcome) (h : CueMeets i s work r work′) where
     cue-same : orElse (recordRefusal i s (length work)) (cueRefusal (s .t) (keptBy s)) ≡ cueRefusal (p .t) (p .cues)
     cue-same = refusal-same _ _ _ (standing-passes i s work p g) (rw (f .position, f .cues (λ y. not (eqb (p .t) y))) refl)
 
@@ -155,10 +156,7 @@ module _ (i : Instrument) (s : Session) (work : List Float) (p : Machine) (g : S
       new = record { kept = true; position = s .t; piano = s .piano }
 
       slot-low : slot < 4
-      slot-low =
-          let few = cue-passed (s .t) (keptBy s) z in
-          let less : length (keptBy s) < length (s .cues) = omega (arith, g .four, few, count-others (s .t) (keptBy s), ltb-false 0 (count (eqb (s .t)) (keptBy s)) absent) in
-          omega (arith, g .four, ltb-true slot (length (s .cues)) (free-slot-full (s .cues) ∙ lt-ltb (length (keptBy s)) (length (s .cues)) less))
+      slot-low = free-slot-there (s .t) (s .cues) (g .four) absent z
 
       here : r .session ≡ record { t = s .t; count = s .count; events = s .events; cues = set (s .cues) slot new; piano = s .piano }
       here = d .adds absent .0
@@ -214,18 +212,18 @@ module _ (i : Instrument) (s : Session) (work : List Float) (p : Machine) (g : S
     cue-stands true e d z sound = let x = d .again (kept-same ∙ e) in rw (x .0, x .1) g
     cue-stands false e d z sound = cue-added d (kept-same ∙ e) z sound
 
-    pub cue-step : Stands i (r .session) work′ (does i p Call.cue .0) × (replyOf (r .answer) [] [] ≡ does i p Call.cue .1)
+    cue-step : Stands i (r .session) work′ (does i p Call.cue .0) × (replyOf (r .answer) out trace ≡ does i p Call.cue .1)
     unfolding does
     cue-step =
-        by-refusal i s work p _ (cueRefusal (p .t) (p .cues)) _ r work′ [] [] g cue-same (h .refuses)
+        by-refusal i s work p _ (cueRefusal (p .t) (p .cues)) _ r work′ out trace g cue-same (h .refuses)
         (λ z.
         let d = h .accepts z in
         let m = sym cue-same ∙ z in
         let own : cueRefusal (s .t) (keptBy s) ≡ 0 = rw (f .position, f .cues (λ y. not (eqb (p .t) y))) m in
-        (cue-stands (isIn (p .t) (p .cues)) refl d own (rw m at (sound-does p (g .machine) i Call.cue)), ap (λ a. replyOf a [] []) (d .answer)))
+        (cue-stands (isIn (p .t) (p .cues)) refl d own (rw m at (sound-does p (g .machine) i Call.cue)), ap (λ a. replyOf a out trace) (d .answer)))
 
   -- ---- go
-  module _ (scratch q : ℕ) (work′ : List Float) (r : Outcome) (h : GoMeets i s work scratch q r work′) where
+  module _ (scratch q : ℕ) (work′ out trace : List Float) (r : Outcome) (h : GoMeets i s work scratch q r work′) where
     abbrev start : ℕ
     start = startOf (p .t) (p .cues) q
 
@@ -253,14 +251,14 @@ module _ (i : Instrument) (s : Session) (work : List Float) (p : Machine) (g : S
           moved i s (r .session) work work′ p (record { score = p .score; t = q; cues = p .cues }) g sound (run i (scoreOf s) x (q - x) (heldAt i s work x)) (d .session) (d .memory)
           (rw (f .score, held-render i s work p g x start-held) (sym (render-then i (p .score) x (q - x)) ∙ ap (renderState i (p .score)) low)) refl refl
 
-    pub go-step : Stands i (r .session) work′ (does i p (Call.go scratch q) .0) × (replyOf (r .answer) [] [] ≡ does i p (Call.go scratch q) .1)
+    go-step : Stands i (r .session) work′ (does i p (Call.go scratch q) .0) × (replyOf (r .answer) out trace ≡ does i p (Call.go scratch q) .1)
     unfolding does
     go-step =
-        by-refusal i s work p _ (goRefusal i scratch q start) _ r work′ [] [] g go-same (h .refuses)
+        by-refusal i s work p _ (goRefusal i scratch q start) _ r work′ out trace g go-same (h .refuses)
         (λ z.
         let d = h .accepts z in (
           go-stands d (rw (sym go-same ∙ z) at (sound-does p (g .machine) i (Call.go scratch q))),
-          ap (λ a. replyOf a [] []) (d .answer) ∙ ap (λ x. Reply.went (q - x)) start-same,
+          ap (λ a. replyOf a out trace) (d .answer) ∙ ap (λ x. Reply.went (q - x)) start-same,
         ))
 
   -- ---- insert and remove: an edit at q that leaves the events before q alone
@@ -322,60 +320,66 @@ module _ (i : Instrument) (s : Session) (work : List Float) (p : Machine) (g : S
             ≡ renderState i score′ (getD (map (dropAbove q) (s .cues)) j (emptyCue (heldAt i s work t′ .piano)) .position)
         slot-held j l k =
             let there : j < length (map (dropAbove q) (s .cues)) = omega (arith, length-map (s .cues) (dropAbove q), g .four) in
-            let c = get-any (map (dropAbove q) (s .cues)) j (emptyCue (heldAt i s work t′ .piano)) (dropAbove q (emptyCue (s .piano))) there ∙ List·getD-map (dropAbove q) (s .cues) j (emptyCue (s .piano)) in
+            let old = emptyCue (s .piano) in
+            let new = emptyCue (heldAt i s work t′ .piano) in
+            let c = get-any (map (dropAbove q) (s .cues)) j new (dropAbove q old) there ∙ List·getD-map (dropAbove q) (s .cues) j old in
             let b = cue-stays (cueAt s j) (ap (λ x. x .kept) (sym c) ∙ k) in
             rw c (f .held j l (b .0) ∙ render-alike (cueAt s j .position) (b .1))
 
-    edit-reply : replyOf (r .answer) [] [] ≡ edit p score′ q .1
-    edit-reply = ap (λ a. replyOf a [] []) (d .answer) ∙ rw (t-same, f .cues (ltb q)) refl
+    edit-reply : (out trace : List Float) → replyOf (r .answer) out trace ≡ edit p score′ q .1
+    edit-reply out trace = ap (λ a. replyOf a out trace) (d .answer) ∙ rw (t-same, f .cues (ltb q)) refl
 
-  module _ (e : TimedEvent) (work′ : List Float) (r : Outcome) (h : InsertMeets i s work e r work′) where
+  module _ (e : TimedEvent) (work′ out trace : List Float) (r : Outcome) (h : InsertMeets i s work e r work′) where
     insert-same : orElse (recordRefusal i s (length work)) (insertRefusal (s .count) e) ≡ insertRefusal (length (p .score)) e
     insert-same = refusal-same _ _ _ (standing-passes i s work p g) (rw (score-length i s work p g) refl)
 
-    pub insert-step : Stands i (r .session) work′ (does i p (Call.insert e) .0) × (replyOf (r .answer) [] [] ≡ does i p (Call.insert e) .1)
+    insert-step : Stands i (r .session) work′ (does i p (Call.insert e) .0) × (replyOf (r .answer) out trace ≡ does i p (Call.insert e) .1)
     unfolding does
     insert-step =
-        by-refusal i s work p _ (insertRefusal (length (p .score)) e) (edit p (placed (p .score) e) (e .position)) r work′ [] [] g insert-same (h .refuses)
+        by-refusal i s work p _ (insertRefusal (length (p .score)) e) (edit p (placed (p .score) e) (e .position)) r work′ out trace g insert-same (h .refuses)
         (λ z.
         let m = sym insert-same ∙ z in
         let d = h .accepts z in
-        let q = insert-passed (length (p .score)) e m in
-        let size : length (placed (scoreOf s) e) ≡ s .count + 1 = omega (arith, length-placed (scoreOf s) e, ap length (f .score), score-length i s work p g) in
-        let few : s .count + 1 ≤ 64 = omega (arith, q .1, score-length i s work p g) in
-        let new : take (s .count + 1) (placed (scoreOf s) e ++ drop (s .count + 1) (s .events)) ≡ placed (p .score) e =
-        take-at (placed (scoreOf s) e) (drop (s .count + 1) (s .events)) (s .count + 1) size ∙ ap (λ l. placed l e) (f .score) in
-        let long : length (placed (scoreOf s) e ++ drop (s .count + 1) (s .events)) ≡ 64 =
-        omega (arith, length-append (placed (scoreOf s) e) (drop (s .count + 1) (s .events)), length-drop (s .count + 1) (s .events), g .long) in
+        let few : s .count < 64 = omega (arith, insert-passed (length (p .score)) e m .1, score-length i s work p g) in
+        let new = placed-score s e few (g .long) ∙ ap (λ l. placed l e) (f .score) in
         let sound : SoundMachine (edit p (placed (p .score) e) (e .position) .0) = rw m at (sound-does p (g .machine) i (Call.insert e)) in
         let alike : (k : ℕ) → k < e .position → eventsAt (p .score) k ≡ eventsAt (placed (p .score) e) k = λ k l. placed-before (p .score) e k l in (
-          edit-stands (e .position) (s .count + 1) _ (placed (p .score) e) work′ r d new few long alike sound,
-          edit-reply (e .position) (s .count + 1) _ (placed (p .score) e) work′ r d new few long alike sound,
+          edit-stands (e .position) (s .count + 1) _ (placed (p .score) e) work′ r d new (omega (arith, few)) (placed-long s e few (g .long)) alike sound,
+          edit-reply (e .position) (s .count + 1) _ (placed (p .score) e) work′ r d new (omega (arith, few)) (placed-long s e few (g .long)) alike sound out trace,
         ))
 
-  module _ (index : ℕ) (work′ : List Float) (r : Outcome) (h : RemoveMeets i s work index r work′) where
+  module _ (index : ℕ) (work′ out trace : List Float) (r : Outcome) (h : RemoveMeets i s work index r work′) where
     remove-same : orElse (recordRefusal i s (length work)) (removeRefusal (s .count) index) ≡ removeRefusal (length (p .score)) index
     remove-same = refusal-same _ _ _ (standing-passes i s work p g) (rw (score-length i s work p g) refl)
 
-    pub remove-step : Stands i (r .session) work′ (does i p (Call.remove index) .0) × (replyOf (r .answer) [] [] ≡ does i p (Call.remove index) .1)
+    -- the position of the event that goes
+    abbrev gone : ℕ
+    gone = getD (p .score) index noEvent .position
+
+    remove-step : Stands i (r .session) work′ (does i p (Call.remove index) .0) × (replyOf (r .answer) out trace ≡ does i p (Call.remove index) .1)
     unfolding does
     remove-step =
-        by-refusal i s work p _ (removeRefusal (length (p .score)) index) (edit p (removed (p .score) index) (getD (p .score) index noEvent .position)) r work′ [] [] g remove-same (h .refuses)
+        by-refusal i s work p _ (removeRefusal (length (p .score)) index) (edit p (removed (p .score) index) gone) r work′ out trace g remove-same (h .refuses)
         (λ z.
         let m = sym remove-same ∙ z in
-        let there : index < length (p .score) = remove-passed (length (p .score)) index m in
-        let at-q : getD (scoreOf s) index noEvent .position ≡ getD (p .score) index noEvent .position = ap (λ l. getD l index noEvent .position) (f .score) in
-        let d : Edits i s work (getD (p .score) index noEvent .position) (s .count - 1) (removed (scoreOf s) index ++ drop (s .count - 1) (s .events)) r work′ = rw at-q at (h .accepts z) in
-        let size : length (removed (scoreOf s) index) ≡ s .count - 1 =
-        omega (arith, length-removed (scoreOf s) index (omega (arith, ap length (f .score), there)), ap length (f .score), score-length i s work p g) in
+        let at-gone : getD (scoreOf s) index noEvent .position ≡ gone = ap (λ l. getD l index noEvent .position) (f .score) in
+        let d : Edits i s work gone (s .count - 1) (removed (scoreOf s) index ++ drop (s .count - 1) (s .events)) r work′ = rw at-gone at (h .accepts z) in
+        let low : index < length (p .score) = remove-passed (length (p .score)) index m in
+        let there : index < s .count = omega (arith, low, score-length i s work p g) in
         let few : s .count - 1 ≤ 64 = omega (arith, g .few) in
-        let new : take (s .count - 1) (removed (scoreOf s) index ++ drop (s .count - 1) (s .events)) ≡ removed (p .score) index =
-        take-at (removed (scoreOf s) index) (drop (s .count - 1) (s .events)) (s .count - 1) size ∙ ap (λ l. removed l index) (f .score) in
-        let long : length (removed (scoreOf s) index ++ drop (s .count - 1) (s .events)) ≡ 64 =
-        omega (arith, length-append (removed (scoreOf s) index) (drop (s .count - 1) (s .events)), length-drop (s .count - 1) (s .events), g .long, g .few) in
-        let sound : SoundMachine (edit p (removed (p .score) index) (getD (p .score) index noEvent .position) .0) = rw m at (sound-does p (g .machine) i (Call.remove index)) in
-        let alike : (k : ℕ) → k < getD (p .score) index noEvent .position → eventsAt (p .score) k ≡ eventsAt (removed (p .score) index) k =
-        λ k l. removed-before (p .score) index noEvent k there l in (
-          edit-stands (getD (p .score) index noEvent .position) (s .count - 1) _ (removed (p .score) index) work′ r d new few long alike sound,
-          edit-reply (getD (p .score) index noEvent .position) (s .count - 1) _ (removed (p .score) index) work′ r d new few long alike sound,
+        let new = removed-score s index there (g .few) (g .long) ∙ ap (λ l. removed l index) (f .score) in
+        let long = removed-long s index there (g .few) (g .long) in
+        let sound : SoundMachine (edit p (removed (p .score) index) gone .0) = rw m at (sound-does p (g .machine) i (Call.remove index)) in
+        let alike : (k : ℕ) → k < gone → eventsAt (p .score) k ≡ eventsAt (removed (p .score) index) k = λ k l. removed-before (p .score) index noEvent k low l in (
+          edit-stands gone (s .count - 1) _ (removed (p .score) index) work′ r d new few long alike sound,
+          edit-reply gone (s .count - 1) _ (removed (p .score) index) work′ r d new few long alike sound out trace,
         ))
+
+  -- ---- any call
+  pub call-step : (c : Call) (out trace : List Float) (r : Outcome) (work′ out′ trace′ : List Float) → CallMeets i s work c out trace r work′ out′ trace′
+      → Stands i (r .session) work′ (does i p c .0) × (replyOf (r .answer) out′ trace′ ≡ does i p c .1)
+  call-step (Call.play scratch m n) out trace r work′ out′ trace′ h = rw (h .0, h .1) at (play-step scratch out trace work′ out′ trace′ r (h .2))
+  call-step Call.cue out trace r work′ out′ trace′ h = cue-step work′ out′ trace′ r h
+  call-step (Call.go scratch q) out trace r work′ out′ trace′ h = go-step scratch q work′ out′ trace′ r h
+  call-step (Call.insert e) out trace r work′ out′ trace′ h = insert-step e work′ out′ trace′ r h
+  call-step (Call.remove index) out trace r work′ out′ trace′ h = remove-step index work′ out′ trace′ r h

@@ -51,7 +51,8 @@ module _ (i : Instrument) where
   unfolding replies does
   then-go p q cs rs e f h = rw (enough, e, f, h)
 
-  pub then : (p : Machine) (c : Call) (cs : List Call) (rs : List (List ℕ)) → map shown (replies i (does i p c .0) cs) ≡ rs → map shown (replies i p (c ∷ cs)) ≡ shown (does i p c .1) ∷ rs
+  pub then : (p : Machine) (c : Call) (cs : List Call) (rs : List (List ℕ)) → map shown (replies i (does i p c .0) cs) ≡ rs
+      → map shown (replies i p (c ∷ cs)) ≡ shown (does i p c .1) ∷ rs
   unfolding replies
   then p c cs rs h = rw h
 

@@ -99,7 +99,9 @@ unfolding rows does count upTo greatest placed mayPrecede soundVelocity
 rows-hold i =
     refl and refl and refl and refl and refl and refl and refl and refl
     and begin i _ _
-    (then i (cued i) (insertAt i 120) _ _ (then-go i (record { score = insertedAt 120 ∷ []; t = 100; cues = 100 ∷ [] }) 130 _ _ refl refl (then i (record { score = insertedAt 120 ∷ []; t = 130; cues = 100 ∷ [] }) (insertAt i 60) _ _ (done i _))))
+    (then i (cued i) (insertAt i 120) _ _
+    (then-go i (record { score = insertedAt 120 ∷ []; t = 100; cues = 100 ∷ [] }) 130 _ _ refl refl
+    (then i (record { score = insertedAt 120 ∷ []; t = 130; cues = 100 ∷ [] }) (insertAt i 60) _ _ (done i _))))
     and begin i _ _ (then i (cued i) (insertAt i 100) _ _ (done i _))
     and begin i _ _ (then i (cued i) (insertAt i 150) _ _ (done i _))
     and no-more
