@@ -28,21 +28,7 @@ lt-or-ge a b = either a b (ltb a b) refl
 
 -- ---- all below
 
-and-false : (t : Bool) → (t && false) ≡ false
-and-false true = refl
-and-false false = refl
-
 module _ (P : ℕ → Bool) where
-  pub all-more : (i : ℕ) → allBelow i P ≡ true → P i ≡ true → allBelow (i + 1) P ≡ true
-  unfolding allBelow
-  all-more i h k = rw add-one (rw (h, k))
-
-  pub all-fails : (n i : ℕ) → i < n → P i ≡ false → allBelow n P ≡ false
-  unfolding allBelow
-  all-fails zero i h k = absurd (omega arith)
-  all-fails (suc n) i h k =
-      last-or-less n i h (λ e. ap (λ (t : Bool). allBelow n P && t) (ap P (sym e) ∙ k) ∙ and-false (allBelow n P)) (λ l. ap (λ (t : Bool). t && P n) (all-fails n i l k))
-
   pub all-at : (n : ℕ) → allBelow n P ≡ true → (i : ℕ) → i < n → P i ≡ true
   unfolding allBelow
   all-at zero h i l = absurd (omega arith)
@@ -58,6 +44,23 @@ unfolding allBelow
 all-cong zero P Q h = refl
 all-cong (suc n) P Q h =
     ap (λ (t : Bool). t && P n) (all-cong n P Q (λ i l. h i (omega arith))) ∙ ap (λ (t : Bool). allBelow n Q && t) (h n (le-refl (suc n)))
+
+-- a loop over the numbers below n, at i: t says whether the tests below i hold
+pub record Tested (n : ℕ) (P : ℕ → Bool) (t : Bool) (i : ℕ) : Type 0 where
+  pub below : i ≤ n
+  pub all : t ≡ allBelow i P
+
+module _ {n : ℕ} {P : ℕ → Bool} where
+  pub tested-none : Tested n P true 0
+  unfolding allBelow
+  tested-none = record { below = omega arith; all = refl }
+
+  pub tested-next : {t u : Bool} {i : ℕ} → Tested n P t i → i < n → u ≡ P i → Tested n P (t && u) (i + 1)
+  unfolding allBelow
+  tested-next s h e = record { below = omega arith; all = rw (add-one, s .all, e) }
+
+  pub tested-all : {t : Bool} {i : ℕ} → Tested n P t i → n ≤ i → t ≡ allBelow n P
+  tested-all {i = i} s h = let b = s .below in let e : i ≡ n = omega arith in rw e at (s .all)
 
 -- ---- sums
 

@@ -14,7 +14,7 @@ use lib.Ieee.{Float, nan, binary64, add, mul}
 use borrow.Author.Tests.{le-leb, lt-leb, lt-ltb, le-ltb, eq-eqb, ne-eqb, ltb-false, eqb-true}
 use Rattle.counting.specs.Below.{tabulate}
 use Rattle.counting.specs.Laws.{tabulate-more}
-use Rattle.decimator.specs.Decimate.{outputLength, refusalOf, weighed, tapSum, filteredAt, decimated, DecimateMeets}
+use Rattle.decimator.specs.Decimate.{outputLength, refusalOf, weighed, tapSum, filteredAt, decimated}
 use Rattle.decimator.specs.Steps.{Thins}
 
 -- ---- the output's length
@@ -119,9 +119,9 @@ module _ (x taps : List Float) (at k : ℕ) (sum : Float) where
   past-last h l = rw (le-leb 63 (at + k) h, le-ltb (at + k - 63) (length x) l)
 
 -- one tap more
-pub summed-more : (x taps : List Float) (at k : ℕ) (s r : Float) → s ≡ tapSum x taps at k → r ≡ weighed x taps at k s → r ≡ tapSum x taps at (k + 1)
+pub tap-sum-more : (x taps : List Float) (at k : ℕ) (s r : Float) → s ≡ tapSum x taps at k → r ≡ weighed x taps at k s → r ≡ tapSum x taps at (k + 1)
 unfolding tapSum
-summed-more x taps at k s r e f = rw (add-one k, ← e) f
+tap-sum-more x taps at k s r e f = rw (add-one k, ← e) f
 
 -- ---- a loop that stores g i at each i
 
@@ -130,23 +130,25 @@ pub record Stored (g : ℕ → Float) (out₀ out : List Float) (i : ℕ) : Type
   pub same : length out ≡ length out₀
   pub done : take i out ≡ tabulate i g
 
-pub stored-start : (g : ℕ → Float) (out : List Float) → Stored g out out 0
-unfolding tabulate
-stored-start g out = record { within = omega arith; same = refl; done = refl }
+module _ {g : ℕ → Float} {out₀ : List Float} where
+  pub stored-start : Stored g out₀ out₀ 0
+  unfolding tabulate
+  stored-start = record { within = omega arith; same = refl; done = refl }
 
-pub stored-turn : (g : ℕ → Float) (out₀ out : List Float) (i : ℕ) (v : Float) → Stored g out₀ out i → i < length out₀ → v ≡ g i → Stored g out₀ (set out i v) (i + 1)
-stored-turn g out₀ out i v s h e = record {
-  within = omega arith;
-  same = length-set out i v ∙ s .same;
-  done =
-      ap (λ (n : ℕ). take n (set out i v)) (add-one i) ∙ take-suc-set out i v (omega (arith, s .same))
-      ∙ rw (s .done, e) (sym (tabulate-more i g));
-}
+  module _ {out : List Float} {i : ℕ} (s : Stored g out₀ out i) where
+    pub stored-turn : {v : Float} → i < length out₀ → v ≡ g i → Stored g out₀ (set out i v) (i + 1)
+    stored-turn {v} h e = record {
+      within = omega arith;
+      same = length-set out i v ∙ s .same;
+      done =
+          ap (λ (n : ℕ). take n (set out i v)) (add-one i) ∙ take-suc-set out i v (omega (arith, s .same))
+          ∙ rw (s .done, e) (sym (tabulate-more i g));
+    }
 
-pub stored-end : (g : ℕ → Float) (out₀ out : List Float) (i : ℕ) → Stored g out₀ out i → length out₀ ≤ i → out ≡ tabulate (length out₀) g
-stored-end g out₀ out i s h =
-    let e : i ≡ length out₀ = omega (arith, s .within) in
-    sym (take-all i out (omega (arith, s .same))) ∙ s .done ∙ ap (λ (n : ℕ). tabulate n g) e
+    pub stored-end : length out₀ ≤ i → out ≡ tabulate (length out₀) g
+    stored-end h =
+        let e : i ≡ length out₀ = omega (arith, s .within) in
+        sym (take-all i out (omega (arith, s .same))) ∙ s .done ∙ ap (λ (n : ℕ). tabulate n g) e
 
 -- ---- the whole
 

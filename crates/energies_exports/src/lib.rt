@@ -32,7 +32,7 @@ pub extern "C" fn energies_in(file: &[u8], part: &[f64]) -> KeyTable {
         energies: [0.0; 16],
         count: 0,
     };
-    let answer = instrument::read(file);
+    let answer = instrument_file::read(file);
     let instrument = answer.instrument;
     if !instrument::is_valid(instrument) {
         return none;

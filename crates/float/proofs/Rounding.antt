@@ -57,7 +57,8 @@ twice-place e h =
     let j = p .0 in
     (suc j, mul-assoc 2 (up e) (2 ^ 1074) ∙ ap (λ (y : ℕ). 2 * y) (p .1) ∙ sym (mul-assoc 2 (2 ^ j) (down e)) ∙ ap (λ (y : ℕ). y * down e) (sym (pow-succ' 2 j)))
 
-doubled : (m : ℕ) (e : ℤ) → T (fits binary64 (fin false (suc m) e)) → suc m * up e < 2 ^ 62 * down e → HasValue (mul binary64 Two (fin false (suc m) e)) false (2 * (suc m * up e)) (1 * down e)
+doubled : (m : ℕ) (e : ℤ) → T (fits binary64 (fin false (suc m) e)) → suc m * up e < 2 ^ 62 * down e
+    → HasValue (mul binary64 Two (fin false (suc m) e)) false (2 * (suc m * up e)) (1 * down e)
 unfolding mul
 doubled m e f l =
     let n = suc m in

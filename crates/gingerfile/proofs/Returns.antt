@@ -12,8 +12,8 @@ use lib.Seq.{take-suc, take-suc-set, take-all}
 use borrow.Author.Tests.{eq-eqb, ne-eqb, eqb-true}
 use Rattle.counting.specs.Every.{and-left}
 use Rattle.instrument.specs.declared.Instrument.{Instrument}
-use Rattle.instrument.specs.declared.ReadAnswer.{ReadAnswer}
-use Rattle.instrument.specs.File.{readOf, accepted}
+use Rattle.instrument_file.specs.declared.ReadAnswer.{ReadAnswer}
+use Rattle.instrument_file.specs.File.{readOf, accepted}
 use Rattle.instrument.specs.ValidLaws.{valid-counts}
 use Rattle.instrument.specs.Work.{countedPart}
 use Rattle.instrument_encoding.specs.Accepted.{accepted-valid}

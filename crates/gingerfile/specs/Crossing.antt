@@ -8,8 +8,8 @@ use lib.Dec.{eqb}
 use lib.ListN.{length}
 use lib.Ieee.{Float, binary64, ofBits}
 use Rattle.instrument.specs.declared.Instrument.{Instrument}
-use Rattle.instrument.specs.declared.ReadAnswer.{ReadAnswer}
-use Rattle.instrument.specs.File.{readOf}
+use Rattle.instrument_file.specs.declared.ReadAnswer.{ReadAnswer}
+use Rattle.instrument_file.specs.File.{readOf}
 use Rattle.instrument.specs.Work.{countedPart}
 use Rattle.session_record.specs.declared.Session.{Session}
 use Rattle.session.specs.declared.Answer.{Answer}

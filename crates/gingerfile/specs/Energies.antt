@@ -5,7 +5,7 @@ use mathlib.Core.List.{List, map}
 use Prim.Native.Nat.{ℕ}
 use lib.ListN.{replicate}
 use lib.Ieee.{Float}
-use Rattle.instrument.specs.File.{readOf}
+use Rattle.instrument_file.specs.File.{readOf}
 use Rattle.energies.specs.declared.KeyEnergy.{KeyEnergy}
 use Rattle.energies.specs.declared.EnergiesAnswer.{EnergiesAnswer}
 use Rattle.energies.specs.Energy.{noEnergy, EnergiesMeet}

@@ -5,7 +5,7 @@ ghost use Prim.Native.Nat.{_*_};
 ghost use mathlib.Core.List.{map};
 ghost use lib.ListN.{length};
 ghost use Rattle.decimator.specs.Decimate.{outputLength, DecimateMeets};
-ghost use Rattle.instrument.specs.File.{readOf};
+ghost use Rattle.instrument_file.specs.File.{readOf};
 ghost use Rattle.session.specs.Calls.{PlayMeets, CueMeets, GoMeets, InsertMeets, RemoveMeets};
 ghost use Rattle.session_words.specs.Session.{eventOf};
 ghost use Rattle.gingerfile.specs.Crossing.{refusedBy, reportOf, sizesOf, Keeps, Crosses, OpenCrosses, InsertCrosses};
@@ -108,7 +108,7 @@ fn keep(words: &mut [u64], outcome: Outcome) -> Report
 pub extern "C" fn gingerfile_read(file: &[u8]) -> Sizes
     ensures { λ r. ⌜ r ≡ sizesOf (readOf (now (file .entry))) ⌝ }
 {
-    let given = instrument::read(file);
+    let given = instrument_file::read(file);
     let instrument = given.instrument;
     let common = instrument.common;
     if given.refusal != 0 {
@@ -138,7 +138,7 @@ pub extern "C" fn gingerfile_read(file: &[u8]) -> Sizes
 pub extern "C" fn gingerfile_open(file: &[u8], words: &mut [u64], work: &mut [f64]) -> Report
     ensures { λ r. ⌜ OpenCrosses (now (file .entry)) (now (words .entry)) (now (work .entry)) r (now (words .exit)) (now (work .exit)) ⌝ }
 {
-    let given = instrument::read(file);
+    let given = instrument_file::read(file);
     if given.refusal != 0 {
         return refused(given.refusal as u64);
     }
@@ -168,7 +168,7 @@ pub extern "C" fn gingerfile_play(
         ((now (work .exit) ≡ now (work .entry)) × (now (out .exit) ≡ now (out .entry)) × (now (trace .exit) ≡ now (trace .entry)))
         (λ i s o. PlayMeets i s (now (work .entry)) (length (now (scratch .entry))) (now (out .entry)) (now (trace .entry)) o (now (work .exit)) (now (out .exit)) (now (trace .exit))) ⌝ }
 {
-    let given = instrument::read(file);
+    let given = instrument_file::read(file);
     if given.refusal != 0 {
         return refused(given.refusal as u64);
     }
@@ -187,7 +187,7 @@ pub extern "C" fn gingerfile_cue(file: &[u8], words: &mut [u64], work: &mut [f64
     ensures { λ r. ⌜ Crosses (now (file .entry)) (now (words .entry)) r (now (words .exit)) (now (work .exit) ≡ now (work .entry))
         (λ i s o. CueMeets i s (now (work .entry)) o (now (work .exit))) ⌝ }
 {
-    let given = instrument::read(file);
+    let given = instrument_file::read(file);
     if given.refusal != 0 {
         return refused(given.refusal as u64);
     }
@@ -212,7 +212,7 @@ pub extern "C" fn gingerfile_go(
     ensures { λ r. ⌜ Crosses (now (file .entry)) (now (words .entry)) r (now (words .exit)) (now (work .exit) ≡ now (work .entry))
         (λ i s o. GoMeets i s (now (work .entry)) (length (now (scratch .entry))) p o (now (work .exit))) ⌝ }
 {
-    let given = instrument::read(file);
+    let given = instrument_file::read(file);
     if given.refusal != 0 {
         return refused(given.refusal as u64);
     }
@@ -240,7 +240,7 @@ pub extern "C" fn gingerfile_insert(
     ensures { λ r. ⌜ InsertCrosses kind key (now (file .entry)) (now (words .entry)) r (now (words .exit)) (now (work .exit) ≡ now (work .entry))
         (λ i s o. InsertMeets i s (now (work .entry)) (record { position = position; event = eventOf kind key velocity }) o (now (work .exit))) ⌝ }
 {
-    let given = instrument::read(file);
+    let given = instrument_file::read(file);
     if given.refusal != 0 {
         return refused(given.refusal as u64);
     }
@@ -269,7 +269,7 @@ pub extern "C" fn gingerfile_remove(
     ensures { λ r. ⌜ Crosses (now (file .entry)) (now (words .entry)) r (now (words .exit)) (now (work .exit) ≡ now (work .entry))
         (λ i s o. RemoveMeets i s (now (work .entry)) index o (now (work .exit))) ⌝ }
 {
-    let given = instrument::read(file);
+    let given = instrument_file::read(file);
     if given.refusal != 0 {
         return refused(given.refusal as u64);
     }
@@ -320,7 +320,7 @@ fn no_energies(number: u64) -> KeyEnergies
 pub extern "C" fn gingerfile_energies(file: &[u8], words: &[u64], work: &[f64]) -> KeyEnergies
     ensures { λ r. ⌜ EnergiesCross (now (file .entry)) (now (words .entry)) (now (work .entry)) r ⌝ }
 {
-    let given = instrument::read(file);
+    let given = instrument_file::read(file);
     if given.refusal != 0 {
         return no_energies(given.refusal as u64);
     }

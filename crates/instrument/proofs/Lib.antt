@@ -1,3 +1,2 @@
-pub mod Passed
-pub mod Filled
+pub mod Added
 pub mod Order

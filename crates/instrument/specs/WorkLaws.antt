@@ -1,7 +1,7 @@
--- The bounds of S and W for a record that passes refusal 7's test: S is 1 to 32 and 5W at most 661,920; and what the code counts is W. Assumes nothing.
+-- The bounds of S and W for a record that passes refusal 7's test: S is 1 to 32 and W at most 132,384; and what the code counts is W. Assumes nothing.
 use mathlib.Core.Path.{_≡_}
 use mathlib.Core.Bool.{true}
-use Prim.Native.Nat.{_*_, _≤_}
+use Prim.Native.Nat.{_≤_}
 use native.Mathlib.Omega.{arith}
 use borrow.Author.Tests.{leb-true, le-leb}
 use Rattle.instrument_fields.specs.declared.LoopDesign.{LoopDesign}
@@ -40,11 +40,9 @@ module _ (i : Instrument) (h : valid i ≡ true) where
       let m = valid-counts i h .fewStrings in
       omega arith
 
-  pub work-bound : 5 * partCells i ≤ 661920
-  work-bound = let b = part-bound in omega arith
-
   pub cells-are : countedPart i ≡ partCells i
   unfolding countedPart partCells
   cells-are =
+      let string = stringAt (i .strings) in
       rw (le-leb (i .«string_count») 32 (valid-counts i h .fewStrings))
-      (sum-cong (i .«string_count») (λ j. countedCells (stringAt (i .strings) j)) (λ j. stringCells (stringAt (i .strings) j)) (λ j l. cells-counted (stringAt (i .strings) j) (string-ranges i h j l)))
+      (sum-cong (i .«string_count») (λ j. countedCells (string j)) (λ j. stringCells (string j)) (λ j l. cells-counted (string j) (string-ranges i h j l)))

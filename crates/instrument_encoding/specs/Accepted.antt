@@ -17,12 +17,13 @@ use Rattle.instrument_fields.specs.Fields.{commonOf}
 use Rattle.instrument_fields.specs.Ranges.{commonInRange, stringInRange}
 use Rattle.instrument_fields.specs.Unused.{noKey, noString, isPlusZero, isNoKey, isNoString}
 use Rattle.instrument.specs.declared.Instrument.{Instrument}
-use Rattle.instrument.specs.declared.ReadAnswer.{ReadAnswer}
+use Rattle.instrument_file.specs.declared.ReadAnswer.{ReadAnswer}
 use Rattle.counting.specs.Below.{pad}
-use Rattle.counting.specs.Laws.{all-at, all-build, getD-tabulate, all-gather, pad-first, pad-past}
-use Rattle.instrument.specs.File.{section, keySection, headed, chained, measured, fielded, fieldedKey, loopIn, keysIn, stringsIn, instrumentOf, refused, accepted, readOf}
-use Rattle.instrument.specs.Given.{sections-low, sections-high, countIn, runIn, run-length, strings-length, keys-length, sum-in, fielded-key, keys-in-range}
+use Rattle.counting.specs.Laws.{all-at, all-build, getD-tabulate, all-gather, pad-first}
+use Rattle.instrument_file.specs.File.{section, keySection, headed, chained, measured, fielded, fieldedKey, loopIn, keysIn, stringsIn, instrumentOf, refused, accepted, readOf}
+use Rattle.instrument_file.specs.FileLaws.{sections-low, sections-high, countIn, runIn, run-length, strings-length, keys-length, sum-in, fielded-key, keys-in-range}
 use Rattle.instrument.specs.Valid.{keyAt, stringAt, pastKey, pastString, stringSum, keysApart, keysUnused, stringsInRange, stringsUnused, counted, keysValid, stringsValid, valid}
+use Rattle.instrument_encoding.specs.Parts.{pad-rest}
 
 -- ---- what acceptance says
 
@@ -95,10 +96,7 @@ module _ (f : List ℕ) (n : ℕ) (i : Instrument) (a : Accepts f n i) where
 
   keys-rest : keysUnused keys n ≡ true
   unfolding keysUnused
-  keys-rest =
-      let l = keys-length f n in
-      all-build (16 - n) (λ k. isNoKey (keyAt keys (n + k)))
-      (λ k h. ap (λ (x : ℕ). isNoKey (keyAt keys (x + k))) (sym l) ∙ ap isNoKey (pad-past 16 noKey pastKey (keysIn f n) k (omega arith)) ∙ no-key-is)
+  keys-rest = pad-rest 16 noKey pastKey (keysIn f n) isNoKey n (keys-length f n) no-key-is
 
   gathered : length (stringsIn f n) ≡ m
   gathered = strings-length f n ∙ sym (sum-in f n n (le-refl n))
@@ -118,10 +116,7 @@ module _ (f : List ℕ) (n : ℕ) (i : Instrument) (a : Accepts f n i) where
 
   strings-rest : stringsUnused strings m ≡ true
   unfolding stringsUnused
-  strings-rest =
-      let l = gathered in
-      all-build (32 - m) (λ j. isNoString (stringAt strings (m + j)))
-      (λ j h. ap (λ (x : ℕ). isNoString (stringAt strings (x + j))) (sym l) ∙ ap isNoString (pad-past 32 noString pastString (stringsIn f n) j (omega arith)) ∙ no-string-is)
+  strings-rest = pad-rest 32 noString pastString (stringsIn f n) isNoString m gathered no-string-is
 
   gives-valid : 1 ≤ n → n ≤ 16 → valid (instrumentOf f n) ≡ true
   unfolding valid counted keysValid stringsValid every everyAfter instrumentOf

@@ -14,7 +14,7 @@ use Rattle.little_endian.specs.Bytes.{Bytes, both, next, le32-part}
 use Rattle.counting.specs.Every.{holds}
 use Rattle.counting.specs.Below.{sumBelow}
 use Rattle.counting.specs.Laws.{all-at, sum-more, sum-within, sum-cong, gather-cong}
-use Rattle.instrument.specs.File.{offsetOf, lengthOf, section, linked, chained}
+use Rattle.instrument_file.specs.File.{offsetOf, lengthOf, section, linked, chained}
 use Rattle.instrument_encoding.specs.Encode.{start, packed}
 use Rattle.instrument_encoding.specs.Parts.{pieces, even-pieces}
 

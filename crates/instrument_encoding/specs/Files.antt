@@ -5,8 +5,8 @@ use mathlib.Core.List.{List}
 use Prim.Native.Nat.{ℕ}
 use Rattle.little_endian.specs.Bytes.{Bytes}
 use Rattle.instrument.specs.declared.Instrument.{Instrument}
-use Rattle.instrument.specs.declared.ReadAnswer.{ReadAnswer}
-use Rattle.instrument.specs.File.{accepted, readOf}
+use Rattle.instrument_file.specs.declared.ReadAnswer.{ReadAnswer}
+use Rattle.instrument_file.specs.File.{accepted, readOf}
 use Rattle.instrument.specs.Valid.{valid}
 use Rattle.instrument_encoding.specs.Encode.{encode}
 

@@ -1,6 +1,6 @@
 pub mod Encode
 pub mod Parts
-pub mod Real
+pub mod InRange
 pub mod Chain
 pub mod Sections
 pub mod Accepted

@@ -12,7 +12,7 @@ use Rattle.little_endian.specs.Places.{u32At-drop}
 use Rattle.little_endian.specs.Bytes.{u32-back}
 use Rattle.counting.specs.Below.{sumBelow, gather}
 use Rattle.counting.specs.Laws.{sum-within, sum-same, length-gather}
-use Rattle.instrument.specs.File.{offsetOf, lengthOf}
+use Rattle.instrument_file.specs.File.{offsetOf, lengthOf}
 use Rattle.instrument_encoding.specs.Encode.{start, packed}
 
 module _ {A : Type 0} where

@@ -2,13 +2,12 @@
 use mathlib.Core.Path.{_≡_, refl, sym, ap, _∙_, subst}
 use mathlib.Core.Bool.{Bool, true, false, cond}
 use mathlib.Core.List.{List, [], _++_, append-nil}
-use mathlib.Core.Logic.{⊎-elim}
 use Prim.Native.Nat.{ℕ, zero, suc, _+_, _-_, _*_, _≤_, _<_}
 use native.Mathlib.Numerals.{add-one}
 use native.Mathlib.Omega.{arith}
 use lib.Dec.{leb, eqb}
 use lib.ListN.{length, take, drop, length-append}
-use lib.Seq.{take-append-seam, ext-getD}
+use lib.Seq.{take-append-seam}
 use borrow.Author.Tests.{le-leb, le-ltb, eq-eqb}
 use Rattle.little_endian.specs.Numbers.{byteAt, u32At, le16, le32, le64, leF64}
 use Rattle.instrument_fields.specs.declared.Common.{Common}
@@ -20,13 +19,16 @@ use Rattle.instrument_fields.specs.Ranges.{commonInRange, keyInRange, stringInR
 use Rattle.instrument_fields.specs.Unused.{noKey, noString, isNoKey, isNoString}
 use Rattle.instrument.specs.declared.Instrument.{Instrument}
 use Rattle.counting.specs.Below.{allBelow, sumBelow, gather, tabulate, pad}
-use Rattle.counting.specs.Laws.{lt-or-ge, all-at, all-build, sum-more, sum-bound, sum-same, length-tabulate, getD-tabulate, tabulate-cong, gather-cong, gather-runs, length-gather, pad-length, pad-first, pad-past}
-use Rattle.instrument.specs.File.{offsetOf, lengthOf, section, keySection, headed, chained, linked, measured, measuredKey, fielded, fieldedKey, loopIn, keysIn, stringsIn, instrumentOf, accepted, readOf}
-use Rattle.instrument.specs.Given.{countIn, runIn, keys-length, key-in}
+use Rattle.counting.specs.Laws.{all-build, sum-more, sum-bound, sum-same, length-tabulate, getD-tabulate, tabulate-cong, gather-cong, gather-runs, length-gather}
+use Rattle.instrument_file.specs.File.{offsetOf, lengthOf, section, keySection, headed, chained, linked, measured, measuredKey, fielded, fieldedKey, loopIn}
+use Rattle.instrument_file.specs.File.{keysIn, stringsIn, instrumentOf, accepted, readOf}
+use Rattle.instrument_file.specs.FileLaws.{countIn, runIn, keys-length, key-listed}
 use Rattle.instrument.specs.Valid.{keyAt, stringAt, pastKey, pastString, stringSum, keysApart, keysUnused, stringsUnused, valid}
-use Rattle.instrument.specs.ValidLaws.{key-in-range, some-strings, few-strings, string-sum-within, common-ranges, valid-counts, keys-ranges, keys-distinct, keys-rest, strings-counted, string-ranges, strings-rest}
+use Rattle.instrument.specs.ValidLaws.{key-in-range, some-strings, few-strings, string-sum-within, common-ranges, valid-counts}
+use Rattle.instrument.specs.ValidLaws.{keys-ranges, keys-distinct, keys-rest, strings-counted, string-ranges, strings-rest}
 use Rattle.instrument_encoding.specs.Encode.{commonBytes, stringBytes, fourBytes, headBytes, keyBytes, sectionBytes, start, packed, encode}
 use Rattle.instrument_encoding.specs.Typed.{FitKey, FitString, Typed}
+use Rattle.instrument_encoding.specs.Parts.{all-from, pad-is}
 use Rattle.instrument_encoding.specs.FieldsBack.{string-back, key-back, common-back, no-key, no-string}
 use Rattle.instrument_encoding.specs.Placed.{StandsAt, at-gather, at-later, packed-length, section-at, count-back, off-back, len-back}
 
@@ -245,24 +247,15 @@ module _ (i : Instrument) (t : Typed i) (v : valid i ≡ true) where
 
   unused-key : (k : ℕ) → n ≤ k → k < 16 → K k ≡ noKey
   unfolding keysUnused
-  unused-key k h l =
-      let e : n + (k - n) ≡ k = omega arith in
-      let q = all-at (λ j. isNoKey (K (n + j))) (16 - n) (keys-rest i v) (k - n) (omega arith) in
-      no-key (K k) (t .key k l) (ap (λ (x : ℕ). isNoKey (K x)) (sym e) ∙ q)
-
-  key-same : (k : ℕ) → k < 16 → keyAt (pad 16 noKey (keysIn f n)) k ≡ K k
-  key-same k h =
-      let l = keys-length f n in
-      ⊎-elim
-      (λ q. key-in f n k q ∙ key-is k q)
-      (λ g. let e : length (keysIn f n) + (k - n) ≡ k = omega arith in
-      ap (keyAt (pad 16 noKey (keysIn f n))) (sym e) ∙ pad-past 16 noKey pastKey (keysIn f n) (k - n) (omega arith) ∙ sym (unused-key k g h))
-      (lt-or-ge k n)
+  unused-key k h l = no-key (K k) (t .key k l) (all-from (λ k. isNoKey (K k)) 16 n (keys-rest i v) k h l)
 
   keys-same : pad 16 noKey (keysIn f n) ≡ i .keys
   keys-same =
-      let p : length (pad 16 noKey (keysIn f n)) ≡ 16 = pad-length 16 noKey (keysIn f n) (omega (arith, keys-length f n, valid-counts i v .fewKeys)) in
-      ext-getD pastKey (pad 16 noKey (keysIn f n)) (i .keys) (p ∙ sym (t .keysLong)) (λ k h. key-same k (omega arith))
+      let l = keys-length f n in
+      let c = valid-counts i v in
+      pad-is 16 noKey pastKey (keysIn f n) (i .keys) (omega arith) (t .keysLong)
+      (λ k h. key-listed f n k (omega arith) ∙ key-is k (omega arith))
+      (λ k h. unused-key k (omega arith))
 
   abbrev run : List LoopDesign
   run = tabulate m (stringAt (i .strings))
@@ -281,41 +274,32 @@ module _ (i : Instrument) (t : Typed i) (v : valid i ≡ true) where
 
   unused-string : (j : ℕ) → m ≤ j → j < 32 → stringAt (i .strings) j ≡ noString
   unfolding stringsUnused
-  unused-string k h l =
-      let e : m + (k - m) ≡ k = omega arith in
-      let q = all-at (λ j. isNoString (stringAt (i .strings) (m + j))) (32 - m) (strings-rest i v) (k - m) (omega arith) in
-      no-string (stringAt (i .strings) k) (t .string k l) (ap (λ (x : ℕ). isNoString (stringAt (i .strings) x)) (sym e) ∙ q)
-
-  string-same : (j : ℕ) → j < 32 → stringAt (pad 32 noString run) j ≡ stringAt (i .strings) j
-  string-same j h =
-      let l = run-length in
-      ⊎-elim
-      (λ q. pad-first 32 noString pastString run j (omega arith) ∙ getD-tabulate m (stringAt (i .strings)) j pastString q)
-      (λ g. let e : length run + (j - m) ≡ j = omega arith in
-      ap (stringAt (pad 32 noString run)) (sym e) ∙ pad-past 32 noString pastString run (j - m) (omega arith) ∙ sym (unused-string j g h))
-      (lt-or-ge j m)
+  unused-string j h l =
+      no-string (stringAt (i .strings) j) (t .string j l) (all-from (λ j. isNoString (stringAt (i .strings) j)) 32 m (strings-rest i v) j h l)
 
   strings-same : pad 32 noString (stringsIn f n) ≡ i .strings
   strings-same =
-      let p : length (pad 32 noString run) ≡ 32 = pad-length 32 noString run (omega (arith, run-length, valid-counts i v .fewStrings)) in
-      ap (pad 32 noString) strings-list ∙ ext-getD pastString (pad 32 noString run) (i .strings) (p ∙ sym (t .stringsLong)) (λ j h. string-same j (omega arith))
+      let l = run-length in
+      let c = valid-counts i v in
+      ap (pad 32 noString) strings-list
+      ∙ pad-is 32 noString pastString run (i .strings) (omega arith) (t .stringsLong)
+      (λ j h. getD-tabulate m (stringAt (i .strings)) j pastString (omega arith))
+      (λ j h. unused-string j (omega arith))
+
+  total : stringSum (pad 16 noKey (keysIn f n)) n ≡ m
+  total = ap (λ (l : List KeyDesign). stringSum l n) keys-same ∙ strings-counted i v
 
   record-same : instrumentOf f n ≡ i
   unfolding instrumentOf
-  record-same =
-      let e : _≡_ {A = Instrument}
-      (record { common = commonOf (section f 0); «key_count» = n; «string_count» = stringSum (pad 16 noKey (keysIn f n)) n; keys = pad 16 noKey (keysIn f n); strings = pad 32 noString (stringsIn f n) })
-      (record { common = i .common; «key_count» = n; «string_count» = m; keys = i .keys; strings = i .strings }) =
-      rw (common-is, keys-same, strings-same, strings-counted i v) in
-      e
+  record-same = λ x. record { common = common-is x; «key_count» = n; «string_count» = total x; keys = keys-same x; strings = strings-same x }
 
   reread : readOf f ≡ accepted i
   unfolding readOf instrumentOf
   reread =
       let d : u32At f 0 - 1 ≡ n = omega (arith, sections-are) in
-      let total : stringSum (pad 16 noKey (keysIn f n)) n ≡ m = ap (λ (l : List KeyDesign). stringSum l n) keys-same ∙ strings-counted i v in
+      let few = le-ltb 32 (stringSum (pad 16 noKey (keysIn f n)) n) (omega (arith, total, valid-counts i v .fewStrings)) in
       let apart : keysApart (pad 16 noKey (keysIn f n)) n ≡ true = ap (λ (l : List KeyDesign). keysApart l n) keys-same ∙ keys-distinct i v in
-      rw (d, is-headed, is-chained, is-measured, is-fielded, le-ltb 32 (stringSum (pad 16 noKey (keysIn f n)) n) (omega (arith, total, valid-counts i v .fewStrings)), apart) (ap accepted record-same)
+      rw (d, is-headed, is-chained, is-measured, is-fielded, few, apart) (ap accepted record-same)
 
 -- THE LAW: reading what is written for an instrument that passes the test gives it
 pub encode-read : (i : Instrument) → Typed i → valid i ≡ true → readOf (encode i) ≡ accepted i

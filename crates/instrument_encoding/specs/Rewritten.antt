@@ -16,8 +16,8 @@ use Rattle.instrument_fields.specs.Unused.{noKey, noString}
 use Rattle.instrument.specs.declared.Instrument.{Instrument}
 use Rattle.counting.specs.Below.{sumBelow, gather, pad}
 use Rattle.counting.specs.Laws.{all-at, sum-within, gather-cong, getD-tabulate, getD-gather, pad-first}
-use Rattle.instrument.specs.File.{offsetOf, lengthOf, section, keySection, measuredKey, measured, loopIn, keysIn, stringsIn, instrumentOf, accepted, readOf}
-use Rattle.instrument.specs.Given.{sections-low, countIn, runIn, run-length, strings-length, key-in, sum-in, fielded-key}
+use Rattle.instrument_file.specs.File.{offsetOf, lengthOf, section, keySection, measuredKey, measured, loopIn, keysIn, stringsIn, instrumentOf, accepted, readOf}
+use Rattle.instrument_file.specs.FileLaws.{sections-low, countIn, runIn, run-length, strings-length, key-in, sum-in, fielded-key}
 use Rattle.instrument.specs.Valid.{stringAt, pastString, stringSum}
 use Rattle.instrument_encoding.specs.Encode.{stringBytes, headBytes, keyBytes, sectionBytes, encode}
 use Rattle.instrument_encoding.specs.Chain.{packed-cong, repacked}

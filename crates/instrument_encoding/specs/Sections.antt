@@ -11,14 +11,15 @@ use borrow.Author.Tests.{leb-true, eqb-true}
 use Rattle.little_endian.specs.Numbers.{byteAt}
 use Rattle.little_endian.specs.Bytes.{Bytes, bytes-part, next, le16-part, le32-part, f64-part}
 use Rattle.counting.specs.Every.{holds}
+use Rattle.float.specs.Numbers.{le-no-nan}
 use Rattle.instrument_fields.specs.Fields.{commonOf, hammerOf, damperOf, keyOf, loopOf}
 use Rattle.instrument_fields.specs.Ranges.{hammerInRange, commonInRange, keyInRange, stringInRange}
 use Rattle.counting.specs.Below.{gather}
 use Rattle.counting.specs.Laws.{all-at, gather-cong}
-use Rattle.instrument.specs.File.{loopIn, fieldedKey}
+use Rattle.instrument_file.specs.File.{loopIn, fieldedKey}
 use Rattle.instrument_encoding.specs.Encode.{commonBytes, stringBytes, fourBytes, headBytes, keyBytes}
 use Rattle.instrument_encoding.specs.Parts.{even-pieces}
-use Rattle.instrument_encoding.specs.Real.{le-real, within-real, between-real}
+use Rattle.instrument_encoding.specs.InRange.{within-no-nan, between-no-nan}
 
 module _ (b : List ℕ) (ok : Bytes b) where
   pub string-part : length b ≡ 44 → stringInRange (loopOf b) ≡ true → stringBytes (loopOf b) ≡ b
@@ -26,26 +27,26 @@ module _ (b : List ℕ) (ok : Bytes b) where
   string-part h k =
       next b 0 2 42 (le16-part b ok 0 (omega arith))
       (next b 2 2 40 (le16-part b ok 2 (omega arith))
-      (next b 4 8 32 (f64-part b ok 4 (omega arith) (within-real _ _ _ (holds _ k 3)))
-      (next b 12 8 24 (f64-part b ok 12 (omega arith) (between-real _ _ _ (holds _ k 4)))
-      (next b 20 8 16 (f64-part b ok 20 (omega arith) (between-real _ _ _ (holds _ k 5)))
-      (next b 28 8 8 (f64-part b ok 28 (omega arith) (within-real _ _ _ (holds _ k 6)))
-      (f64-part b ok 36 (omega arith) (le-real _ _ (holds _ k 7))))))))
+      (next b 4 8 32 (f64-part b ok 4 (omega arith) (within-no-nan _ _ _ (holds _ k 3)))
+      (next b 12 8 24 (f64-part b ok 12 (omega arith) (between-no-nan _ _ _ (holds _ k 4)))
+      (next b 20 8 16 (f64-part b ok 20 (omega arith) (between-no-nan _ _ _ (holds _ k 5)))
+      (next b 28 8 8 (f64-part b ok 28 (omega arith) (within-no-nan _ _ _ (holds _ k 6)))
+      (f64-part b ok 36 (omega arith) (le-no-nan _ _ (holds _ k 7))))))))
       ∙ take-all 44 b (omega arith)
 
   pub common-part : length b ≡ 76 → commonInRange (commonOf b) ≡ true → commonBytes (commonOf b) ≡ b
   unfolding commonBytes commonOf hammerOf damperOf commonInRange hammerInRange
   common-part h k =
       let hammer = holds _ (holds _ k 2) in
-      next b 0 8 68 (f64-part b ok 0 (omega arith) (within-real _ _ _ (holds _ k 0)))
-      (next b 8 8 60 (f64-part b ok 8 (omega arith) (within-real _ _ _ (holds _ k 1)))
-      (next b 16 8 52 (f64-part b ok 16 (omega arith) (within-real _ _ _ (hammer 0)))
-      (next b 24 8 44 (f64-part b ok 24 (omega arith) (within-real _ _ _ (hammer 1)))
-      (next b 32 8 36 (f64-part b ok 32 (omega arith) (within-real _ _ _ (hammer 2)))
-      (next b 40 8 28 (f64-part b ok 40 (omega arith) (within-real _ _ _ (hammer 3)))
-      (next b 48 8 20 (f64-part b ok 48 (omega arith) (within-real _ _ _ (holds _ k 3)))
-      (next b 56 8 12 (f64-part b ok 56 (omega arith) (within-real _ _ _ (holds _ k 4)))
-      (next b 64 8 4 (f64-part b ok 64 (omega arith) (within-real _ _ _ (holds _ k 5)))
+      next b 0 8 68 (f64-part b ok 0 (omega arith) (within-no-nan _ _ _ (holds _ k 0)))
+      (next b 8 8 60 (f64-part b ok 8 (omega arith) (within-no-nan _ _ _ (holds _ k 1)))
+      (next b 16 8 52 (f64-part b ok 16 (omega arith) (within-no-nan _ _ _ (hammer 0)))
+      (next b 24 8 44 (f64-part b ok 24 (omega arith) (within-no-nan _ _ _ (hammer 1)))
+      (next b 32 8 36 (f64-part b ok 32 (omega arith) (within-no-nan _ _ _ (hammer 2)))
+      (next b 40 8 28 (f64-part b ok 40 (omega arith) (within-no-nan _ _ _ (hammer 3)))
+      (next b 48 8 20 (f64-part b ok 48 (omega arith) (within-no-nan _ _ _ (holds _ k 3)))
+      (next b 56 8 12 (f64-part b ok 56 (omega arith) (within-no-nan _ _ _ (holds _ k 4)))
+      (next b 64 8 4 (f64-part b ok 64 (omega arith) (within-no-nan _ _ _ (holds _ k 5)))
       (le32-part b ok 72 (omega arith))))))))))
       ∙ take-all 76 b (omega arith)
 
@@ -76,10 +77,10 @@ module _ (b : List ℕ) (ok : Bytes b) (k : fieldedKey b ≡ true) where
   head-part h =
       let s = holds _ (holds _ k 2) in
       next b 0 4 32 (four-part (omega arith))
-      (next b 4 8 24 (f64-part b ok 4 (omega arith) (within-real _ _ _ (s 2)))
-      (next b 12 8 16 (f64-part b ok 12 (omega arith) (within-real _ _ _ (s 3)))
-      (next b 20 8 8 (f64-part b ok 20 (omega arith) (within-real _ _ _ (s 4)))
-      (f64-part b ok 28 (omega arith) (within-real _ _ _ (s 5))))))
+      (next b 4 8 24 (f64-part b ok 4 (omega arith) (within-no-nan _ _ _ (s 2)))
+      (next b 12 8 16 (f64-part b ok 12 (omega arith) (within-no-nan _ _ _ (s 3)))
+      (next b 20 8 8 (f64-part b ok 20 (omega arith) (within-no-nan _ _ _ (s 4)))
+      (f64-part b ok 28 (omega arith) (within-no-nan _ _ _ (s 5))))))
 
   pub key-part : length b ≡ 36 + 44 * byteAt b 2 → keyBytes (keyOf b) (loopIn b) ≡ b
   unfolding keyBytes keyOf loopIn fieldedKey

@@ -1,9 +1,9 @@
 // Refusal 7, "an instrument that no accepted file gives", both ways, and the law for a writer: what is read from an accepted file is written as the same bytes. The laws hold for
 // lists of bytes and for records of their types; here a caller's slice and record are shown to be such, so that no premise is left open.
 use instrument::Instrument;
-use instrument::ReadAnswer;
 use instrument::is_valid;
-use instrument::read;
+use instrument_file::ReadAnswer;
+use instrument_file::read;
 ghost use Rattle.instrument_encoding.specs.Files.{FileRead, GivenTest};
 
 // Reads a file: `instrument::read`, with what an accepted file's record is worth.

@@ -1,11 +1,11 @@
 -- Which patterns are a NaN's, by the test that `float_of` makes. Assumes nothing.
 use mathlib.Core.Path.{_≡_, refl, sym, _∙_, subst}
-use mathlib.Core.Bool.{Bool, true, not}
-use Prim.Native.Nat.{ℕ, _≤_, _<_, _%_}
+use mathlib.Core.Bool.{true}
+use Prim.Native.Nat.{ℕ, _<_, _%_}
 use lib.Dec.{T}
-use lib.Ieee.{Float, nan, inf, fin, binary64, isNan, nanBits, ofBits}
+use lib.Ieee.{Float, nan, inf, fin, binary64, isNan, ofBits}
 use lib.Ieee.Bits.{nanBits-is, nanBits-above}
-use borrow.Author.Tests.{lt-ltb, le-ltb}
+use borrow.Author.Tests.{lt-ltb}
 
 nan-is : (v : Float) → isNan v ≡ true → nan ≡ v
 unfolding isNan
@@ -15,6 +15,3 @@ nan-is (fin s m e) h = absurd (subst T (sym h) tt)
 
 pub above-nan : (n : ℕ) → 0x7ff0000000000000 < n % 0x8000000000000000 → nan ≡ ofBits binary64 n
 above-nan n h = nan-is (ofBits binary64 n) (sym (nanBits-is binary64 n) ∙ nanBits-above binary64 n ∙ lt-ltb _ _ h)
-
-pub below-no-nan : (n : ℕ) → n % 0x8000000000000000 ≤ 0x7ff0000000000000 → T (not (nanBits binary64 n))
-below-no-nan n h = subst (λ (b : Bool). T (not b)) (sym (nanBits-above binary64 n ∙ le-ltb _ _ h)) tt

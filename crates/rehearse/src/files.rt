@@ -60,7 +60,7 @@ pub struct Loaded {
 }
 
 fn nothing() -> Loaded {
-    let answer = instrument::read(b"");
+    let answer = instrument_file::read(b"");
     let instrument = answer.instrument;
     Loaded {
         is_accepted: false,
@@ -70,7 +70,7 @@ fn nothing() -> Loaded {
 
 // The instrument, or its refusal as the one line of answer.
 pub fn accept(file: &[u8]) -> Loaded {
-    let answer = instrument::read(file);
+    let answer = instrument_file::read(file);
     let instrument = answer.instrument;
     if answer.refusal == 0 {
         return Loaded {

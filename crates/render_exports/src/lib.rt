@@ -154,7 +154,7 @@ pub extern "C" fn render_block(
     out: &mut [f64],
     trace: &mut [f64],
 ) -> Small {
-    let answer = instrument::read(file);
+    let answer = instrument_file::read(file);
     let instrument = answer.instrument;
     if !instrument::is_valid(instrument) {
         return small;

@@ -233,12 +233,12 @@ same-units nan a b h k = absurd h
 same-units (inf s) a b h k = absurd h
 same-units (fin s m e) a b h k = eq-of-mul-eq-mul-right (down e) (down-pos e) a b (sym (h .1) ∙ k .1)
 
-same-number : (x y : Float) (a : ℕ) → Number x a → Number y a → x ≡ y
-same-number x y a h k =
+value-unique : (x y : Float) (a : ℕ) → Number x a → Number y a → x ≡ y
+value-unique x y a h k =
     sym (ofBits-toBits binary64 x (h .0)) ∙ ap (λ (b : ℕ). ofBits binary64 b) (value-bits x a (h .1) ∙ sym (value-bits y a (k .1))) ∙ ofBits-toBits binary64 y (k .0)
 
 pub only-one : (x r t : Float) → CorrectlyRounded x r → CorrectlyRounded x t → r ≡ t
-only-one x r t c d = same-number r t (c .R) (c .result) (subst (λ (n : ℕ). Number t n) (sym same) (d .result))
+only-one x r t c d = value-unique r t (c .R) (c .result) (subst (λ (n : ℕ). Number t n) (sym same) (d .result))
   where
     e : c .X ≡ d .X
     e = same-units x (c .X) (d .X) (c .operand .1) (d .operand .1)

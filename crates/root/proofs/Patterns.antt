@@ -11,7 +11,7 @@ use lib.Arith.{lt→nleb}
 use lib.Bits.{bitAnd, and-mask}
 use lib.Count.{leadingZeros, leading-top}
 use lib.Pow.{pow-add, pow-pos, pow-mono}
-use lib.Ieee.{Float, nan, inf, fin, binary64, up, down, size, odd, neg, nanBits, fits, isNan, ofFields, ofBits, toBits, lt, eq}
+use lib.Ieee.{Float, nan, inf, fin, binary64, up, down, size, odd, neg, nanBits, fits, ofFields, ofBits, toBits, lt, eq}
 use lib.Ieee.Fits.{up-pos, neg-fits, and-l}
 use lib.Ieee.Positive.{first-pos}
 use lib.Ieee.Exact.{HasValue, odd-sign}
@@ -150,12 +150,6 @@ top-of-bits b h l = go (eqb (b % 2 ^ 52) 0) (parts b l ∙ ap (λ (y : ℕ). ofF
     go false e = inr e
 
 -- ---- a value above 0
-pub above-no-nan : (x : Float) → lt nought x ≡ true → T (not (isNan x))
-unfolding lt isNan
-above-no-nan nan h = absurd (false≢true h)
-above-no-nan (inf s) h = tt
-above-no-nan (fin s m e) h = tt
-
 -- its pattern has no sign
 room : (a b : ℕ) → 2 ^ 63 + a + b < 2 ^ 64 → 0 + a + b < 2 ^ 63
 room a b h = omega arith
@@ -240,13 +234,15 @@ no-root (fin false (suc m) e) h k =
     absurd (subst T h (lt→ltb (0 * down e) (suc m * up e * 1) (subst (λ (y : ℕ). y < suc m * up e * 1) (sym (zero-mul (down e))) (mul-pos (mul-pos (zero-lt-suc m) (up-pos e)) (zero-lt-suc 0)))))
 
 -- ---- as the code writes it
-pub made : (x : Float) (m g q : ℕ) → T (fits binary64 x) → lt nought x ≡ true → toBits binary64 x < 0x7ff0_0000_0000_0000 → Paired (toBits binary64 x) m g → q ≡ nearestRoot (m * 2 ^ 52)
+pub made : (x : Float) (m g q : ℕ) → T (fits binary64 x) → lt nought x ≡ true → toBits binary64 x < 0x7ff0_0000_0000_0000
+    → Paired (toBits binary64 x) m g → q ≡ nearestRoot (m * 2 ^ 52)
     → (q < 2 ^ 53) × T (not (nanBits binary64 ((g / 2 - 26) * 2 ^ 52 % 2 ^ 64 + q))) × (ofBits binary64 ((g / 2 - 26) * 2 ^ 52 % 2 ^ 64 + q) ≡ rootOf x)
 made x m g q f h l v e =
     let n = m * 2 ^ 52 in
     let r = root-bits x m g f h l v in
     let w : Range n = (mul-le-mul-right (2 ^ 52) (v .least), mul-le-mul-right (2 ^ 52) (v .most)) in
-    let z : (g / 2 - 26) * 2 ^ 52 % 2 ^ 64 + q ≡ (g / 2 - 26) * 2 ^ 52 + nearestRoot n = ap (λ (y : ℕ). y + q) (shifted g (v .high)) ∙ ap (λ (y : ℕ). (g / 2 - 26) * 2 ^ 52 + y) e in
+    let z : (g / 2 - 26) * 2 ^ 52 % 2 ^ 64 + q ≡ (g / 2 - 26) * 2 ^ 52 + nearestRoot n =
+    ap (λ (y : ℕ). y + q) (shifted g (v .high)) ∙ ap (λ (y : ℕ). (g / 2 - 26) * 2 ^ 52 + y) e in
     (rw e (nearest-range n w .1), rw z (r .0), ap (λ (y : ℕ). ofBits binary64 y) z ∙ r .1)
   where
     shifted : (g : ℕ) → g ≤ 3120 → (g / 2 - 26) * 2 ^ 52 % 2 ^ 64 ≡ (g / 2 - 26) * 2 ^ 52

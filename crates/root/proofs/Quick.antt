@@ -1,14 +1,9 @@
 -- What the quick way of `root` rests on: the rounded root of n is the one r with r * r - r < n ≤ r * r + r, whatever r was guessed from. Assumes nothing.
-use mathlib.Core.Path.{_≡_, sym, ap, _∙_, subst}
+use mathlib.Core.Path.{_≡_, sym, ap, _∙_}
 use mathlib.Core.Logic.{_⊎_, inl, inr}
 use Prim.Native.Nat.{ℕ, _+_, _-_, _*_, _/_, _%_, _^_, _≤_, _<_}
 use native.Mathlib.Nat.{mul-le-mul, mul-mul-mul-comm, mul-right-comm}
 use native.Mathlib.Omega.{arith}
-use mathlib.Core.Bool.{Bool, not}
-use lib.Dec.{T}
-use lib.Ieee.{binary64, nanBits}
-use lib.Ieee.Bits.{nanBits-above}
-use borrow.Author.Tests.{le-ltb}
 use Rattle.root.specs.Steps.{nearestRoot}
 use Rattle.root.proofs.Squares.{sq-add, sq-suc, round-down, round-up, lt-or-ge}
 
@@ -84,7 +79,8 @@ square-is p =
     ∙ f
   where
     sum : (x y z : ℕ)
-        → (x + (2 * y + z / 0x1_0000_0000) / 0x1_0000_0000) * 2 ^ 64 + ((2 * y + z / 0x1_0000_0000) % 0x1_0000_0000 * 0x1_0000_0000 + z % 0x1_0000_0000) ≡ x * (2 ^ 32 * 2 ^ 32) + 2 * (y * 2 ^ 32) + z
+        → (x + (2 * y + z / 0x1_0000_0000) / 0x1_0000_0000) * 2 ^ 64 + ((2 * y + z / 0x1_0000_0000) % 0x1_0000_0000 * 0x1_0000_0000 + z % 0x1_0000_0000)
+        ≡ x * (2 ^ 32 * 2 ^ 32) + 2 * (y * 2 ^ 32) + z
     sum x y z = omega arith
 
 pub bit-none : (b : ℕ) → b ≡ 0 → b ≤ 1
@@ -101,7 +97,3 @@ left-none pp hi lo d c e b l w t h = omega arith
 pub left-one : (pp hi lo d c : ℕ) → hi * 2 ^ 64 + lo ≡ pp → d < 2 ^ 64 → lo < 2 ^ 64
     → (d + lo) % 2 ^ 64 ≡ c % 0x1000 * 0x10_0000_0000_0000 → c % 0x1000 * 0x10_0000_0000_0000 < lo → hi + 1 ≡ c / 0x1000 → pp + d ≡ c * 2 ^ 52
 left-one pp hi lo d c e b l w t h = omega arith
-
--- ---- a pattern up to infinity's is no NaN's
-pub low-no-nan : (n : ℕ) → n ≤ 0x7ff0_0000_0000_0000 → T (not (nanBits binary64 n))
-low-no-nan n h = subst (λ (t : Bool). T (not t)) (sym (nanBits-above binary64 n ∙ le-ltb 0x7ff0_0000_0000_0000 (n % 2 ^ 63) (omega arith))) tt

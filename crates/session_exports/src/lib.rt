@@ -70,7 +70,7 @@ pub extern "C" fn session_play(
     out: &mut [f64],
     trace: &mut [f64],
 ) -> u64 {
-    let read = instrument::read(file);
+    let read = instrument_file::read(file);
     let instrument = read.instrument;
     let session = struck(instrument, work, key, count, apart);
     plays(instrument, session, blocks, work, scratch, out, trace)
@@ -87,7 +87,7 @@ pub extern "C" fn session_go(
     work: &mut [f64],
     scratch: &mut [f64],
 ) -> u64 {
-    let read = instrument::read(file);
+    let read = instrument_file::read(file);
     let instrument = read.instrument;
     let session = struck(instrument, work, key, count, apart);
     let done = session::go(instrument, session, work, scratch, p);
@@ -98,7 +98,7 @@ pub extern "C" fn session_go(
 // `times` cues of a session that keeps none.
 #[no_mangle]
 pub extern "C" fn session_cue(file: &[u8], times: u64, work: &mut [f64]) -> u64 {
-    let read = instrument::read(file);
+    let read = instrument_file::read(file);
     let instrument = read.instrument;
     let opened = session::open(instrument, work);
     let session = opened.session;
@@ -143,7 +143,7 @@ pub extern "C" fn session_edit(
     work: &mut [f64],
     scratch: &mut [f64],
 ) -> u64 {
-    let read = instrument::read(file);
+    let read = instrument_file::read(file);
     let instrument = read.instrument;
     let session = cued(instrument, work, scratch);
     let past = session::go(instrument, session, work, scratch, 150);

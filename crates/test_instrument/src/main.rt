@@ -52,7 +52,7 @@ fn read_one(path: &[u8]) {
     let mut bytes = io::large_buffer();
     let n = io::read_full(fd, &mut bytes);
     libc::close(fd);
-    let answer = instrument::read(&bytes[..n]);
+    let answer = instrument_file::read(&bytes[..n]);
     let i = answer.instrument;
     if answer.refusal == 0 {
         say_instrument(i);

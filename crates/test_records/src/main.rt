@@ -211,7 +211,7 @@ fn right_session(i: Instrument) -> Session {
 fn main() {
     let mut file = io::buffer();
     let n = embedded::put_instrument(&mut file);
-    let answer = instrument::read(little_endian::part(&file, 0, n));
+    let answer = instrument_file::read(little_endian::part(&file, 0, n));
     let i = answer.instrument;
     let s = right_session(i);
     try_right(i, s);

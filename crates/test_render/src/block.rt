@@ -217,7 +217,7 @@ fn unreadable(standing: Standing) -> Judged {
 fn cells(file: &[u8], lent: usize) -> usize
     ensures { λ r. ⌜ r ≤ lent ⌝ }
 {
-    let answer = instrument::read(file);
+    let answer = instrument_file::read(file);
     let w = instrument::part_cells(answer.instrument);
     if w < lent { w } else { lent }
 }

@@ -36,7 +36,7 @@ struct Replay {
 
 // A new list: its instrument's file, read and opened.
 fn open(file: &[u8], work: &mut [f64], trace: &[f64], text: &mut [u8]) -> Replay {
-    let answer = instrument::read(file);
+    let answer = instrument_file::read(file);
     let instrument = answer.instrument;
     let turn = console::open(instrument, work, trace);
     let console = turn.console;

@@ -16,7 +16,7 @@ abbrev μ-loop : tie.MeasureT-loop
 μ-loop x out₀ i₀ i-end out i = i-end - i
 
 loop-holds : tie.Need-loop-holds Inv-loop μ-loop
-loop-holds c = (refl, c .pre, stored-start _ (c .args .out .now))
+loop-holds c = (refl, c .pre, stored-start)
 
 mul-out : tie.Need-mul-out Inv-loop μ-loop
 mul-out c = search needs
@@ -37,13 +37,18 @@ loop-less : tie.Need-loop-less Inv-loop μ-loop
 loop-less c = search needs
 
 loop-again : tie.Need-loop-again Inv-loop μ-loop
-loop-again c = let l = c .before .before .loop in let a = c .before .before .before .args in (refl, l .inv .1, stored-turn _ (a .out .now) (l .out) (l .i) _ (l .inv .2) (omega arith) refl)
+loop-again c =
+    let l = c .before .before .loop in
+    (refl, l .inv .1, stored-turn (l .inv .2) (omega arith) refl)
 
 same-length : tie.Need-same-length Inv-loop μ-loop
 same-length c = search needs
 
 returns : tie.Need-returns Inv-loop μ-loop
-returns c = let l = c .before .loop in let a = c .before .before .args in stored-end _ (a .out .now) (l .out) (l .i) (l .inv .2) (omega arith) ∙ whole-list (a .x .now) (length (a .out .now)) (l .inv .1)
+returns c =
+    let l = c .before .loop in
+    let a = c .before .before .args in
+    stored-end (l .inv .2) (omega arith) ∙ whole-list (a .x .now) (length (a .out .now)) (l .inv .1)
 
 pub copy-spec : {M : Type 1} → statement M
 copy-spec =

@@ -3,7 +3,7 @@ use mathlib.Core.Path.{_≡_, refl, _∙_, ap}
 use Prim.Native.Nat.{_-_, _≤_}
 use native.Mathlib.Omega.{arith}
 use Rattle.decimator.specs.Decimate.{tapSum}
-use Rattle.decimator.proofs.Cases.{summed-more}
+use Rattle.decimator.proofs.Cases.{tap-sum-more}
 use borrow.Author.Needs.{needs}
 use Rattle.decimator.proofs.filtered.Statement.{statement}
 use Rattle.decimator.proofs.filtered.Tie as tie
@@ -28,10 +28,16 @@ loop-less : tie.Need-loop-less Inv-loop μ-loop
 loop-less c = search needs
 
 loop-again : tie.Need-loop-again Inv-loop μ-loop
-loop-again c = let l = c .before .before .loop in let a = c .before .before .before .before .before .args in (omega arith, summed-more (a .x .now) (a .taps .now) (a .at) (l .k) (l .sum) (c .weigh .result) (l .inv .1) (c .weigh .ensures))
+loop-again c =
+    let l = c .before .before .loop in
+    let a = c .before .before .before .before .before .args in
+    (omega arith, tap-sum-more (a .x .now) (a .taps .now) (a .at) (l .k) (l .sum) (c .weigh .result) (l .inv .1) (c .weigh .ensures))
 
 returns : tie.Need-returns Inv-loop μ-loop
-returns c = let l = c .before .loop in let a = c .before .before .before .before .args in l .inv .1 ∙ ap (tapSum (a .x .now) (a .taps .now) (a .at)) (omega arith)
+returns c =
+    let l = c .before .loop in
+    let a = c .before .before .before .before .args in
+    l .inv .1 ∙ ap (tapSum (a .x .now) (a .taps .now) (a .at)) (omega arith)
 
 pub filtered-spec : {M : Type 1} → statement M
 filtered-spec =

@@ -16,7 +16,7 @@ abbrev μ-loop : tie.MeasureT-loop
 μ-loop x taps factor out₀ i₀ i-end out i = i-end - i
 
 loop-holds : tie.Need-loop-holds Inv-loop μ-loop
-loop-holds c = (refl, stored-start _ _)
+loop-holds c = (refl, stored-start)
 
 -- the sample that output i starts from lies in the signal
 start : (c : tie.In-loop Inv-loop μ-loop) → c .before .loop .i * c .before .before .before .before .before .args .factor < 1048576
@@ -47,14 +47,13 @@ loop-less c = search needs
 loop-again : tie.Need-loop-again Inv-loop μ-loop
 loop-again c =
     let l = c .before .before .loop in
-    let s = c .before .before .before .before .before .before in
-    (refl, stored-turn _ (s .args .out .now) (l .out) (l .i) (c .filtered .result) (l .inv .1) (c .before .loop-test .taken) (c .filtered .ensures))
+    (refl, stored-turn (l .inv .1) (c .before .loop-test .taken) (c .filtered .ensures))
 
 same-length : tie.Need-same-length Inv-loop μ-loop
 same-length c = search needs
 
 returns : tie.Need-returns Inv-loop μ-loop
-returns c = let l = c .before .loop in stored-end _ _ (l .out) (l .i) (l .inv .1) (c .loop-test .left)
+returns c = stored-end (c .before .loop .inv .1) (c .loop-test .left)
 
 pub thin-spec : {M : Type 1} → statement M
 thin-spec =

@@ -8,7 +8,9 @@ add-j : tie.Need-add-j
 add-j c = search needs
 
 returns : tie.Need-returns
-returns c = let a = c .before .args in before-first (a .x .now) (a .taps .now) (a .at) (a .k) (a .sum) (c .if1 .taken)
+returns c =
+    let a = c .before .args in
+    before-first (a .x .now) (a .taps .now) (a .at) (a .k) (a .sum) (c .if1 .taken)
 
 mul-result : tie.Need-mul-result
 mul-result c = search needs
@@ -23,10 +25,14 @@ shared-slice-read-result-2 : tie.Need-shared-slice-read-result-2
 shared-slice-read-result-2 c = search needs
 
 returns-2 : tie.Need-returns-2
-returns-2 c = let a = c .before .before .before .before .args in meets (a .x .now) (a .taps .now) (a .at) (a .k) (a .sum) (c .before .before .before .if1 .left) (c .before .before .if2 .taken)
+returns-2 c =
+    let a = c .before .before .before .before .args in
+    meets (a .x .now) (a .taps .now) (a .at) (a .k) (a .sum) (c .before .before .before .if1 .left) (c .before .before .if2 .taken)
 
 returns-3 : tie.Need-returns-3
-returns-3 c = let a = c .before .before .args in past-last (a .x .now) (a .taps .now) (a .at) (a .k) (a .sum) (c .before .if1 .left) (c .if2 .left)
+returns-3 c =
+    let a = c .before .before .args in
+    past-last (a .x .now) (a .taps .now) (a .at) (a .k) (a .sum) (c .before .if1 .left) (c .if2 .left)
 
 pub weigh-spec : {M : Type 1} → statement M
 weigh-spec =

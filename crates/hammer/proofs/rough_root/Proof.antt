@@ -2,14 +2,14 @@
 use native.Mathlib.Omega.{arith}
 use borrow.Author.Needs.{needs}
 use lib.Ieee.{ofBits}
-use Rattle.root.proofs.Patterns.{above-no-nan}
-use Rattle.root.proofs.Quick.{low-no-nan}
+use Rattle.float.specs.Numbers.{lt-no-nan, low-no-nan}
+use Rattle.float.specs.Order.{nought}
 use Rattle.hammer.proofs.rough_root.Statement.{statement}
 use Rattle.hammer.proofs.rough_root.Tie as tie
 
 float-to-bits-bits : tie.Need-float-to-bits-bits
 unfolding ofBits
-float-to-bits-bits c = above-no-nan (c .before .args .y) (c .if1 .taken)
+float-to-bits-bits c = lt-no-nan nought (c .before .args .y) (c .if1 .taken)
 
 sub-fall : tie.Need-sub-fall
 sub-fall c = search needs

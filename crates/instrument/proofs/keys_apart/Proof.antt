@@ -1,40 +1,36 @@
--- The tests below i have passed.
+-- The invariant: `all` says whether the number of each key before i differs from those before it. Start, turn and end are counting's laws of Tested.
 use Rattle.instrument.specs.Valid.{newKey, keysApart}
-use Prim.Native.Nat.{_-_}
+use Prim.Native.Nat.{ℕ, _-_}
 use native.Mathlib.Omega.{arith}
-use Rattle.instrument.proofs.Passed.{Passed, passed-none, passed-next, stopped, passed-all}
+use borrow.Author.Needs.{needs}
+use Rattle.counting.specs.Laws.{Tested, tested-none, tested-next, tested-all}
 use Rattle.instrument.proofs.keys_apart.Statement.{statement}
 use Rattle.instrument.proofs.keys_apart.Tie as tie
 
 abbrev Inv-loop : tie.InvT-loop
-Inv-loop keys n i₀ i = Passed n (newKey keys) i
+Inv-loop keys n all₀ i₀ all i = Tested n (newKey keys) all i
 
 abbrev μ-loop : tie.MeasureT-loop
-μ-loop keys n i₀ i = n - i
+μ-loop keys n all₀ i₀ all i = n - i
 
 loop-holds : tie.Need-loop-holds Inv-loop μ-loop
-loop-holds c = let z = c .args in passed-none (z .n) (newKey (z .keys))
+loop-holds c = tested-none
 
 is-new-key-requires : tie.Need-is-new-key-requires Inv-loop μ-loop
-is-new-key-requires c κs = omega arith
+is-new-key-requires c κs = search needs
+
+add-i : tie.Need-add-i Inv-loop μ-loop
+add-i c = search needs
+
+loop-less : tie.Need-loop-less Inv-loop μ-loop
+loop-less c = search needs
+
+loop-again : tie.Need-loop-again Inv-loop μ-loop
+loop-again c = tested-next (c .before .before .loop .inv) (omega arith) (c .is-new-key .ensures)
 
 returns : tie.Need-returns Inv-loop μ-loop
 unfolding keysApart
-returns c = let z = c .before .before .before .before .args in let l = c .before .before .before .loop in stopped (z .n) (newKey (z .keys)) (l .i) _ (c .before .before .loop-test .taken) (c .before .is-new-key .ensures) (c .if1 .taken)
-
-add-i : tie.Need-add-i Inv-loop μ-loop
-add-i c = omega arith
-
-loop-less : tie.Need-loop-less Inv-loop μ-loop
-loop-less c = omega arith
-
-loop-again : tie.Need-loop-again Inv-loop μ-loop
-unfolding keysApart
-loop-again c = let z = c .before .before .before .before .args in let l = c .before .before .before .loop in passed-next (z .n) (newKey (z .keys)) (l .i) _ (c .before .before .loop-test .taken) (c .before .is-new-key .ensures) (l .inv) (c .if1 .left)
-
-returns-2 : tie.Need-returns-2 Inv-loop μ-loop
-unfolding keysApart
-returns-2 c = let z = c .before .before .args in let l = c .before .loop in passed-all (z .n) (newKey (z .keys)) (l .i) (l .inv) (c .loop-test .left)
+returns c = tested-all (c .before .loop .inv) (c .loop-test .left)
 
 pub keys-apart-spec : {M : Type 1} → statement M
 keys-apart-spec =
@@ -44,8 +40,7 @@ keys-apart-spec =
     μ-loop
     loop-holds
     is-new-key-requires
-    returns
     add-i
     loop-less
     loop-again
-    returns-2)
+    returns)

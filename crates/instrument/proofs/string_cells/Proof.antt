@@ -1,3 +1,4 @@
+-- A case for each test: outside the file's ranges both sides are 0; inside, the sum is at most 2 * 2000 + 2 * 66 + 5.
 use native.Mathlib.Omega.{arith}
 use borrow.Author.Tests.{le-leb, lt-leb}
 use Rattle.instrument.specs.Work.{countedCells}

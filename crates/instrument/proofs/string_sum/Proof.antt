@@ -1,41 +1,50 @@
--- The sum of the first i keys' strings, at most 3 each.
-use mathlib.Core.Path.{_≡_, sym, ap, _∙_}
-use Prim.Native.Nat.{_≤_, _-_, _*_}
+-- The invariant: m is the sum of the strings of the keys before i; a key in range has at most 3, so that no sum wraps.
+use Prim.Native.Nat.{ℕ, _-_}
 use native.Mathlib.Omega.{arith}
-use Rattle.instrument.specs.Valid.{stringSum}
-use Rattle.instrument.specs.ValidLaws.{few-strings, string-sum-none, string-sum-more}
+use mathlib.Core.Path.{refl}
+use borrow.Author.Needs.{needs}
+use Rattle.instrument.specs.Valid.{keyAt, stringSum}
+use Rattle.instrument.specs.ValidLaws.{few-strings}
+use Rattle.instrument.proofs.Added.{Added, added-none, added-next, added-all}
 use Rattle.instrument.proofs.string_sum.Statement.{statement}
 use Rattle.instrument.proofs.string_sum.Tie as tie
 
 abbrev Inv-loop : tie.InvT-loop
-Inv-loop n keys i₀ m₀ i m = (i ≤ n) × (m ≡ stringSum keys i) × (m ≤ 3 * i)
+Inv-loop n keys m₀ i₀ m i = Added n 3 (λ (k : ℕ). keyAt keys k .strings) m i
 
 abbrev μ-loop : tie.MeasureT-loop
-μ-loop n keys i₀ m₀ i m = n - i
+μ-loop n keys m₀ i₀ m i = n - i
 
 loop-holds : tie.Need-loop-holds Inv-loop μ-loop
-loop-holds c = (omega arith, sym (string-sum-none (c .args .t1)), omega arith)
+loop-holds c = added-none
 
 mul-k : tie.Need-mul-k Inv-loop μ-loop
-mul-k c = omega arith
+mul-k c = search needs
 
 array-copy-out-k : tie.Need-array-copy-out-k Inv-loop μ-loop
-array-copy-out-k c = omega arith
+array-copy-out-k c = search needs
 
 add-m : tie.Need-add-m Inv-loop μ-loop
-add-m c = let few = few-strings (c .before .before .before .before .args .t1) (c .before .before .before .before .args .n) (c .before .before .before .before .pre .1) (c .before .before .before .loop .i) (c .before .before .loop-test .taken) in omega arith
+add-m c =
+    let at = c .before .before .before in
+    let few = few-strings (at .before .args .t1) (at .before .args .n) (at .before .pre .1) (at .loop .i) (omega arith) in
+    omega arith
 
 add-i : tie.Need-add-i Inv-loop μ-loop
-add-i c = omega arith
+add-i c = search needs
 
 loop-less : tie.Need-loop-less Inv-loop μ-loop
-loop-less c = omega arith
+loop-less c = search needs
 
 loop-again : tie.Need-loop-again Inv-loop μ-loop
-loop-again c = let few = few-strings (c .before .before .before .before .args .t1) (c .before .before .before .before .args .n) (c .before .before .before .before .pre .1) (c .before .before .before .loop .i) (c .before .before .loop-test .taken) in let more = string-sum-more (c .before .before .before .before .args .t1) (c .before .before .before .loop .i) in (omega arith, omega arith, omega arith)
+loop-again c =
+    let at = c .before .before .before in
+    let few = few-strings (at .before .args .t1) (at .before .args .n) (at .before .pre .1) (at .loop .i) (omega arith) in
+    added-next (at .loop .inv) (omega arith) refl few
 
 returns : tie.Need-returns Inv-loop μ-loop
-returns c = let l = c .before .loop in l .inv .1 ∙ ap (stringSum (c .before .before .args .t1)) (omega (arith, l .inv .0, c .loop-test .left))
+unfolding stringSum
+returns c = added-all (c .before .loop .inv) (c .loop-test .left)
 
 pub string-sum-spec : {M : Type 1} → statement M
 string-sum-spec =

@@ -1,3 +1,4 @@
+-- The expression is the definition of specs/Ranges.antt, test by test; the constants compute to the floats that it names.
 use lib.Ieee.{ofBits, ofInt}
 use Rattle.counting.specs.Every.{every, everyAfter}
 use Rattle.instrument_fields.specs.Ranges.{keyInRange}

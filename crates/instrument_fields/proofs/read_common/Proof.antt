@@ -1,3 +1,4 @@
+-- Each field is the number at its place, as specs/Fields.antt has it: the contracts of the reads, field by field.
 use Rattle.instrument_fields.specs.Fields.{damperOf, commonOf}
 use borrow.Author.Needs.{needs}
 use Rattle.instrument_fields.proofs.read_common.Statement.{statement}

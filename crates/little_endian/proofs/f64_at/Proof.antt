@@ -1,3 +1,4 @@
+-- The float of the pattern that `u64_at` reads, as defined.
 use Rattle.little_endian.specs.Numbers.{f64At}
 use borrow.Author.Needs.{needs}
 use Rattle.little_endian.proofs.f64_at.Statement.{statement}

@@ -1,12 +1,13 @@
 -- The test takes exactly the patterns of the NaNs away.
 use lib.Ieee.{ofBits, div}
-use Rattle.little_endian.proofs.Patterns.{above-nan, below-no-nan}
+use Rattle.float.specs.Numbers.{low-no-nan}
+use Rattle.little_endian.proofs.Patterns.{above-nan}
 use borrow.Author.Needs.{needs}
 use Rattle.little_endian.proofs.float_of.Statement.{statement}
 use Rattle.little_endian.proofs.float_of.Tie as tie
 
 float-from-bits-result : tie.Need-float-from-bits-result
-float-from-bits-result c = below-no-nan _ (c .if1 .left)
+float-from-bits-result c = low-no-nan _ (c .if1 .left)
 
 returns : tie.Need-returns
 unfolding ofBits div

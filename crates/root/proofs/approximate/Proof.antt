@@ -1,6 +1,6 @@
 -- `root::approximate` is safe: the patterns that it makes floats of are no NaN's. Assumes nothing.
 use native.Mathlib.Omega.{arith}
-use Rattle.root.proofs.Quick.{low-no-nan}
+use Rattle.float.specs.Numbers.{low-no-nan}
 use borrow.Author.Needs.{needs}
 use Rattle.root.proofs.approximate.Statement.{statement}
 use Rattle.root.proofs.approximate.Tie as tie

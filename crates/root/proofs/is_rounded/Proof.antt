@@ -7,7 +7,8 @@ use lib.Dec.{T}
 use lib.Ieee.{binary64, ofBits, toBits}
 use lib.Ieee.Bits.{ofBits-toBits}
 use Rattle.root.specs.Steps.{Left}
-use Rattle.root.proofs.Patterns.{above-no-nan}
+use Rattle.float.specs.Numbers.{lt-no-nan}
+use Rattle.float.specs.Order.{nought}
 use Rattle.root.proofs.Quick.{after-1, pattern-is}
 use borrow.Author.Needs.{needs}
 use Rattle.root.proofs.is_rounded.Statement.{statement}
@@ -15,7 +16,7 @@ use Rattle.root.proofs.is_rounded.Tie as tie
 
 float-to-bits-wrapping-sub-u64 : tie.Need-float-to-bits-wrapping-sub-u64
 unfolding ofBits
-float-to-bits-wrapping-sub-u64 c = above-no-nan (c .before .args .g) (c .if1 .taken)
+float-to-bits-wrapping-sub-u64 c = lt-no-nan nought (c .before .args .g) (c .if1 .taken)
 
 add-wrapping-sub-u64 : tie.Need-add-wrapping-sub-u64
 add-wrapping-sub-u64 c = search needs

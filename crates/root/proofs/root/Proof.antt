@@ -7,7 +7,9 @@ use lib.Dec.{T}
 use lib.Ieee.{binary64, fits, nanBits, ofBits, div}
 use Rattle.root.specs.Root.{rootOf}
 use Rattle.root.specs.Steps.{nearestRoot}
-use Rattle.root.proofs.Patterns.{above-no-nan, above-zero-bits, above-top-root, zero-root, no-root, made}
+use Rattle.float.specs.Numbers.{lt-no-nan}
+use Rattle.float.specs.Order.{nought}
+use Rattle.root.proofs.Patterns.{above-zero-bits, above-top-root, zero-root, no-root, made}
 use borrow.Author.Needs.{needs}
 use Rattle.root.proofs.root.Statement.{statement}
 use Rattle.root.proofs.root.Tie as tie
@@ -17,7 +19,7 @@ held c = subst T (sym (c .good .0 .1)) tt
 
 float-to-bits-bits : tie.Need-float-to-bits-bits
 unfolding ofBits
-float-to-bits-bits c = above-no-nan (c .before .args .x) (c .if1 .taken)
+float-to-bits-bits c = lt-no-nan nought (c .before .args .x) (c .if1 .taken)
 
 paired-requires : tie.Need-paired-requires
 unfolding ofBits
