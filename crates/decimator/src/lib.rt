@@ -59,7 +59,7 @@ fn weigh(x: &[f64], taps: &[f64], at: usize, k: usize, sum: f64) -> f64
 }
 
 // The sample that the taps make of the signal around sample `at`.
-fn filtered(x: &[f64], taps: &[f64], at: usize) -> f64
+fn filtered_at(x: &[f64], taps: &[f64], at: usize) -> f64
     requires { ⌜ (at < 0x10_0000) × (length (now taps) ≡ 127) ⌝ }
     ensures { λ r. ⌜ r ≡ filteredAt (now (x .entry)) (now (taps .entry)) at ⌝ }
 {
@@ -85,7 +85,7 @@ fn thin(x: &[f64], taps: &[f64], factor: usize, out: &mut [f64])
     ensures { λ _. ⌜ now (out .exit) ≡ tabulate (length (now (out .entry))) (λ i. filteredAt (now (x .entry)) (now (taps .entry)) (i * factor)) ⌝ }
 {
     for i in 0..out.len() {
-        out[i] = filtered(x, taps, i * factor);
+        out[i] = filtered_at(x, taps, i * factor);
     }
 }
 

@@ -83,7 +83,7 @@ module _ (c : LoopFilter) (f : List Float) (x : Float) (n k : ℕ) (hk : k ≡ n
   abbrev a : Float
   a = c .«ap_a»
 
-  abbrev pub started : List Float
+  abbrev started : List Float
   started = stageCells (c .«thiran_a») (take 2 f) x ++ drop 2 f
 
   abbrev pub u : Float

@@ -40,9 +40,9 @@ module _ (i : Instrument) (h : valid i ≡ true) where
       let m = valid-counts i h .fewStrings in
       omega arith
 
-  pub cells-are : countedPart i ≡ partCells i
+  pub part-counted : countedPart i ≡ partCells i
   unfolding countedPart partCells
-  cells-are =
+  part-counted =
       let string = stringAt (i .strings) in
       rw (le-leb (i .«string_count») 32 (valid-counts i h .fewStrings))
       (sum-cong (i .«string_count») (λ j. countedCells (string j)) (λ j. stringCells (string j)) (λ j l. cells-counted (string j) (string-ranges i h j l)))

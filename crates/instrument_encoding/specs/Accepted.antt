@@ -21,7 +21,7 @@ use Rattle.instrument_file.specs.declared.ReadAnswer.{ReadAnswer}
 use Rattle.counting.specs.Below.{pad}
 use Rattle.counting.specs.Laws.{all-at, all-build, getD-tabulate, all-gather, pad-first}
 use Rattle.instrument_file.specs.File.{section, keySection, headed, chained, measured, fielded, fieldedKey, loopIn, keysIn, stringsIn, instrumentOf, refused, accepted, readOf}
-use Rattle.instrument_file.specs.FileLaws.{sections-low, sections-high, countIn, runIn, run-length, strings-length, keys-length, sum-in, fielded-key, keys-in-range}
+use Rattle.instrument_file.specs.FileLaws.{sections-low, sections-high, countIn, runIn, length-run, strings-length, keys-length, sum-in, fielded-key, keys-in-range}
 use Rattle.instrument.specs.Valid.{keyAt, stringAt, pastKey, pastString, stringSum, keysApart, keysUnused, stringsInRange, stringsUnused, counted, keysValid, stringsValid, valid}
 use Rattle.instrument_encoding.specs.Parts.{pad-rest}
 
@@ -108,7 +108,7 @@ module _ (f : List ℕ) (n : ℕ) (i : Instrument) (a : Accepts f n i) where
       λ k j l r. ap stringInRange (getD-tabulate (countIn f k) (loopIn (keySection f k)) j pastString r)
       ∙ all-at (λ j. stringInRange (loopIn (keySection f k) j)) (countIn f k) (holds _ (fielded-key f n (a .fielded) k l) 3) j r in
       ap stringInRange (pad-first 32 noString pastString (stringsIn f n) j (subst (λ (x : ℕ). j < x) (sym gathered) h))
-      ∙ all-gather (runIn f) (countIn f) (run-length f) n stringInRange pastString one j (subst (λ (x : ℕ). j < x) (sum-in f n n (le-refl n)) h)
+      ∙ all-gather (runIn f) (countIn f) (length-run f) n stringInRange pastString one j (subst (λ (x : ℕ). j < x) (sum-in f n n (le-refl n)) h)
 
   strings-range : stringsInRange strings m ≡ true
   unfolding stringsInRange

@@ -10,22 +10,22 @@ use lib.ListN.{length, take, drop, length-drop}
 use lib.Seq.{length-take-le, take-all}
 use borrow.Author.Tests.{eqb-true}
 use Rattle.little_endian.specs.Numbers.{u32At, le32}
-use Rattle.little_endian.specs.Bytes.{Bytes, both, next, le32-part}
+use Rattle.little_endian.specs.Bytes.{Bytes, both, part-next, le32-part}
 use Rattle.counting.specs.Every.{holds}
 use Rattle.counting.specs.Below.{sumBelow}
 use Rattle.counting.specs.Laws.{all-at, sum-more, sum-within, sum-cong, gather-cong}
 use Rattle.instrument_file.specs.File.{offsetOf, lengthOf, section, linked, chained}
-use Rattle.instrument_encoding.specs.Encode.{start, packed}
+use Rattle.instrument_encoding.specs.Encode.{sectionStart, packed}
 use Rattle.instrument_encoding.specs.Parts.{pieces, even-pieces}
 
 pub packed-cong : (d : ℕ) (S R : ℕ → List ℕ) → ((i : ℕ) → i < d → S i ≡ R i) → packed d S ≡ packed d R
-unfolding packed start
+unfolding packed sectionStart
 packed-cong d S R h =
     let sizes : (i : ℕ) → i < d → sumBelow i (λ k. length (S k)) ≡ sumBelow i (λ k. length (R k)) =
     λ i l. sum-cong i (λ k. length (S k)) (λ k. length (R k)) (λ k q. ap length (h k (omega arith))) in
     ap (λ (l : List ℕ). le32 d ++ l)
     (both
-    (gather-cong d (λ i. le32 (start d S i) ++ le32 (length (S i))) (λ i. le32 (start d R i) ++ le32 (length (R i)))
+    (gather-cong d (λ i. le32 (sectionStart d S i) ++ le32 (length (S i))) (λ i. le32 (sectionStart d R i) ++ le32 (length (R i)))
     (λ i l. both (ap (λ (m : ℕ). le32 (4 + 8 * d + m)) (sizes i l)) (ap (λ (x : List ℕ). le32 (length x)) (h i l))))
     (gather-cong d S R h))
 
@@ -70,14 +70,14 @@ module _ (f : List ℕ) (n : ℕ) (c : chained f n ≡ true) where
     room : 4 + 8 * d ≤ length f
     room = let t = total in omega arith
 
-    pair : (i : ℕ) → i < d → le32 (start d (section f) i) ++ le32 (length (section f i)) ≡ take 8 (drop (4 + 8 * i) f)
-    unfolding start offsetOf lengthOf
+    pair : (i : ℕ) → i < d → le32 (sectionStart d (section f) i) ++ le32 (length (section f i)) ≡ take 8 (drop (4 + 8 * i) f)
+    unfolding sectionStart offsetOf lengthOf
     pair i h =
-        let s : start d (section f) i ≡ offsetOf f i =
+        let s : sectionStart d (section f) i ≡ offsetOf f i =
         ap (λ (m : ℕ). 4 + 8 * d + m) (sum-cong i (λ k. length (section f k)) (lengthOf f) (λ k l. section-length k (omega arith))) ∙ sym (offset-is i (omega arith)) in
         let r = room in
         let q : 8 + 8 * i ≡ 4 + 8 * i + 4 = omega arith in
-        next f (4 + 8 * i) 4 4
+        part-next f (4 + 8 * i) 4 4
         (ap le32 s ∙ le32-part f ok (4 + 8 * i) (omega arith))
         (ap le32 (section-length i h) ∙ le32-part f ok (8 + 8 * i) (omega arith) ∙ ap (λ (m : ℕ). take 4 (drop m f)) q)
 
@@ -86,9 +86,9 @@ module _ (f : List ℕ) (n : ℕ) (c : chained f n ≡ true) where
     repacked =
         let t = total in
         let word : le32 d ≡ take 4 (drop 0 f) = ap le32 e ∙ le32-part f ok 0 (omega (arith, room)) in
-        let table = gather-cong d (λ i. le32 (start d (section f) i) ++ le32 (length (section f i))) (λ i. take 8 (drop (4 + 8 * i) f)) pair ∙ even-pieces f 4 8 d in
+        let table = gather-cong d (λ i. le32 (sectionStart d (section f) i) ++ le32 (length (section f i))) (λ i. take 8 (drop (4 + 8 * i) f)) pair ∙ even-pieces f 4 8 d in
         let body =
         gather-cong d (section f) (λ i. take (lengthOf f i) (drop (4 + 8 * d + sumBelow i (lengthOf f)) f)) (λ i l. ap (λ (m : ℕ). take (lengthOf f i) (drop m f)) (offset-is i (omega arith)))
         ∙ pieces f (4 + 8 * d) (lengthOf f) d in
-        next f 0 4 (8 * d + sumBelow d (lengthOf f)) word (next f 4 (8 * d) (sumBelow d (lengthOf f)) table body)
+        part-next f 0 4 (8 * d + sumBelow d (lengthOf f)) word (part-next f 4 (8 * d) (sumBelow d (lengthOf f)) table body)
         ∙ take-all (4 + (8 * d + sumBelow d (lengthOf f))) f (omega arith)

@@ -39,11 +39,11 @@ sectionBytes i zero = commonBytes (i .common)
 sectionBytes i (suc k) = keyBytes (keyAt (i .keys) k) (λ j. stringAt (i .strings) (stringSum (i .keys) k + j))
 
 -- d sections S 0, S 1, .. under their table, each from where the one before it ends
-unfoldable pub start : ℕ → (ℕ → List ℕ) → ℕ → ℕ
-start d S i = 4 + 8 * d + sumBelow i (λ k. length (S k))
+unfoldable pub sectionStart : ℕ → (ℕ → List ℕ) → ℕ → ℕ
+sectionStart d S i = 4 + 8 * d + sumBelow i (λ k. length (S k))
 
 unfoldable pub packed : ℕ → (ℕ → List ℕ) → List ℕ
-packed d S = le32 d ++ (gather d (λ i. le32 (start d S i) ++ le32 (length (S i))) ++ gather d S)
+packed d S = le32 d ++ (gather d (λ i. le32 (sectionStart d S i) ++ le32 (length (S i))) ++ gather d S)
 
 unfoldable pub encode : Instrument → List ℕ
 encode i = packed (i .«key_count» + 1) (sectionBytes i)

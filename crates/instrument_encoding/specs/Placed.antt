@@ -13,7 +13,7 @@ use Rattle.little_endian.specs.Bytes.{u32-back}
 use Rattle.counting.specs.Below.{sumBelow, gather}
 use Rattle.counting.specs.Laws.{sum-within, sum-same, length-gather}
 use Rattle.instrument_file.specs.File.{offsetOf, lengthOf}
-use Rattle.instrument_encoding.specs.Encode.{start, packed}
+use Rattle.instrument_encoding.specs.Encode.{sectionStart, packed}
 
 module _ {A : Type 0} where
   -- list k of a gathering with B after it
@@ -62,7 +62,7 @@ module _ (d : ℕ) (S : ℕ → List ℕ) where
   L k = length (S k)
 
   abbrev P : ℕ → List ℕ
-  P i = le32 (start d S i) ++ le32 (length (S i))
+  P i = le32 (sectionStart d S i) ++ le32 (length (S i))
 
   pub pair-length : (i : ℕ) → length (P i) ≡ 8
   unfolding le32 le16
@@ -81,8 +81,8 @@ module _ (d : ℕ) (S : ℕ → List ℕ) where
       let g = length-gather S L (λ i. refl) d in
       omega arith
 
-  pub section-at : (k : ℕ) → k < d → StandsAt (packed d S) (start d S k) (S k)
-  unfolding packed start
+  pub section-at : (k : ℕ) → k < d → StandsAt (packed d S) (sectionStart d S k) (S k)
+  unfolding packed sectionStart
   section-at k h =
       let inner = at-gather S L d k [] (λ i. refl) h in
       let bare : StandsAt (gather d S) (sumBelow k L) (S k) = record { after = inner .after; is = ap (drop (sumBelow k L)) (sym (append-nil (gather d S))) ∙ inner .is } in
@@ -100,17 +100,17 @@ module _ (d : ℕ) (S : ℕ → List ℕ) where
     unfolding packed
     count-back = u32-back d (gather d P ++ gather d S) (omega arith)
 
-    start-small : (k : ℕ) → k < d → start d S k + length (S k) < 4294967296
-    unfolding start
+    start-small : (k : ℕ) → k < d → sectionStart d S k + length (S k) < 4294967296
+    unfolding sectionStart
     start-small k h = let w = sum-within L d k h in omega arith
 
-    pub off-back : (k : ℕ) → k < d → offsetOf (packed d S) k ≡ start d S k
+    pub off-back : (k : ℕ) → k < d → offsetOf (packed d S) k ≡ sectionStart d S k
     unfolding offsetOf
     off-back k h =
         let p = pair-at k h in
         let q = start-small k h in
         ap (u32At (packed d S)) (sym (add-zero (4 + 8 * k))) ∙ sym (u32At-drop (4 + 8 * k) (packed d S) 0) ∙ ap (λ (l : List ℕ). u32At l 0) (p .is)
-        ∙ first-word (start d S k) (length (S k)) (p .after) (omega arith)
+        ∙ first-word (sectionStart d S k) (length (S k)) (p .after) (omega arith)
 
     pub len-back : (k : ℕ) → k < d → lengthOf (packed d S) k ≡ length (S k)
     unfolding lengthOf
@@ -119,4 +119,4 @@ module _ (d : ℕ) (S : ℕ → List ℕ) where
         let q = start-small k h in
         let e : 8 + 8 * k ≡ 4 + 8 * k + 4 = omega arith in
         ap (u32At (packed d S)) e ∙ sym (u32At-drop (4 + 8 * k) (packed d S) 4) ∙ ap (λ (l : List ℕ). u32At l 4) (p .is)
-        ∙ second-word (start d S k) (length (S k)) (p .after) (omega arith)
+        ∙ second-word (sectionStart d S k) (length (S k)) (p .after) (omega arith)

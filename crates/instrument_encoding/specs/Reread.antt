@@ -26,7 +26,7 @@ use Rattle.instrument_file.specs.FileLaws.{countIn, runIn, keys-length, key-lis
 use Rattle.instrument.specs.Valid.{keyAt, stringAt, pastKey, pastString, stringSum, keysApart, keysUnused, stringsUnused, valid}
 use Rattle.instrument.specs.ValidLaws.{key-in-range, some-strings, few-strings, string-sum-within, common-ranges, valid-counts}
 use Rattle.instrument.specs.ValidLaws.{keys-ranges, keys-distinct, keys-rest, strings-counted, string-ranges, strings-rest}
-use Rattle.instrument_encoding.specs.Encode.{commonBytes, stringBytes, fourBytes, headBytes, keyBytes, sectionBytes, start, packed, encode}
+use Rattle.instrument_encoding.specs.Encode.{commonBytes, stringBytes, fourBytes, headBytes, keyBytes, sectionBytes, sectionStart, packed, encode}
 use Rattle.instrument_encoding.specs.Typed.{FitKey, FitString, Typed}
 use Rattle.instrument_encoding.specs.Parts.{all-from, pad-is}
 use Rattle.instrument_encoding.specs.FieldsBack.{string-back, key-back, common-back, no-key, no-string}
@@ -121,7 +121,7 @@ module _ (i : Instrument) (t : Typed i) (v : valid i ≡ true) where
   small : 4 + 8 * (n + 1) + sumBelow (n + 1) (λ k. length (parts k)) < 4294967296
   small = let b = sum-bound (λ k. length (parts k)) (n + 1) 168 part-small in let c = valid-counts i v in omega arith
 
-  offset : (k : ℕ) → k < n + 1 → offsetOf f k ≡ start (n + 1) parts k
+  offset : (k : ℕ) → k < n + 1 → offsetOf f k ≡ sectionStart (n + 1) parts k
   offset = off-back (n + 1) parts small
 
   size : (k : ℕ) → k < n + 1 → lengthOf f k ≡ length (parts k)
@@ -179,7 +179,7 @@ module _ (i : Instrument) (t : Typed i) (v : valid i ≡ true) where
       rw (le-leb 4 (length f) (omega arith), le-leb 2 (u32At f 0) (omega arith), le-leb (u32At f 0) 17 (omega arith), le-leb (4 + 8 * u32At f 0) (length f) (omega arith))
 
   is-linked : (k : ℕ) → k < n → linked f k ≡ true
-  unfolding linked start
+  unfolding linked sectionStart
   is-linked k h =
       let a = offset k (omega arith) in
       let b = offset (k + 1) (omega arith) in
@@ -188,11 +188,11 @@ module _ (i : Instrument) (t : Typed i) (v : valid i ≡ true) where
       eq-eqb (offsetOf f (k + 1)) (offsetOf f k + lengthOf f k) (omega arith)
 
   chain-first : offsetOf f 0 ≡ 4 + 8 * (n + 1)
-  unfolding start sumBelow
+  unfolding sectionStart sumBelow
   chain-first = let a = offset 0 (omega arith) in omega arith
 
   chain-last : offsetOf f n + lengthOf f n ≡ length f
-  unfolding start
+  unfolding sectionStart
   chain-last =
       let a = offset n (omega arith) in
       let c = size n (omega arith) in

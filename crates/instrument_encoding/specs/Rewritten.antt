@@ -17,7 +17,7 @@ use Rattle.instrument.specs.declared.Instrument.{Instrument}
 use Rattle.counting.specs.Below.{sumBelow, gather, pad}
 use Rattle.counting.specs.Laws.{all-at, sum-within, gather-cong, getD-tabulate, getD-gather, pad-first}
 use Rattle.instrument_file.specs.File.{offsetOf, lengthOf, section, keySection, measuredKey, measured, loopIn, keysIn, stringsIn, instrumentOf, accepted, readOf}
-use Rattle.instrument_file.specs.FileLaws.{sections-low, countIn, runIn, run-length, strings-length, key-in, sum-in, fielded-key}
+use Rattle.instrument_file.specs.FileLaws.{sections-low, countIn, runIn, length-run, strings-length, key-in, sum-in, fielded-key}
 use Rattle.instrument.specs.Valid.{stringAt, pastString, stringSum}
 use Rattle.instrument_encoding.specs.Encode.{stringBytes, headBytes, keyBytes, sectionBytes, encode}
 use Rattle.instrument_encoding.specs.Chain.{packed-cong, repacked}
@@ -31,7 +31,7 @@ string-in f n k j h l =
     let w = sum-within (countIn f) n k h in
     let len = strings-length f n in
     pad-first 32 noString pastString (gather n (runIn f)) (sumBelow k (countIn f) + j) (omega arith)
-    ∙ getD-gather (runIn f) (countIn f) (run-length f) n k j pastString h l
+    ∙ getD-gather (runIn f) (countIn f) (length-run f) n k j pastString h l
     ∙ getD-tabulate (countIn f k) (loopIn (keySection f k)) j pastString l
 
 keyBytes-cong : (k : KeyDesign) (s t : ℕ → LoopDesign) → ((j : ℕ) → j < k .strings → s j ≡ t j) → keyBytes k s ≡ keyBytes k t

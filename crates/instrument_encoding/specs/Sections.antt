@@ -9,7 +9,7 @@ use lib.ListN.{length, take, drop, getD, length-drop}
 use lib.Seq.{length-take-le, take-all}
 use borrow.Author.Tests.{leb-true, eqb-true}
 use Rattle.little_endian.specs.Numbers.{byteAt}
-use Rattle.little_endian.specs.Bytes.{Bytes, bytes-part, next, le16-part, le32-part, f64-part}
+use Rattle.little_endian.specs.Bytes.{Bytes, bytes-part, part-next, le16-part, le32-part, f64-part}
 use Rattle.counting.specs.Every.{holds}
 use Rattle.float.specs.Numbers.{le-no-nan}
 use Rattle.instrument_fields.specs.Fields.{commonOf, hammerOf, damperOf, keyOf, loopOf}
@@ -25,12 +25,12 @@ module _ (b : List ℕ) (ok : Bytes b) where
   pub string-part : length b ≡ 44 → stringInRange (loopOf b) ≡ true → stringBytes (loopOf b) ≡ b
   unfolding stringBytes loopOf stringInRange
   string-part h k =
-      next b 0 2 42 (le16-part b ok 0 (omega arith))
-      (next b 2 2 40 (le16-part b ok 2 (omega arith))
-      (next b 4 8 32 (f64-part b ok 4 (omega arith) (within-no-nan _ _ _ (holds _ k 3)))
-      (next b 12 8 24 (f64-part b ok 12 (omega arith) (between-no-nan _ _ _ (holds _ k 4)))
-      (next b 20 8 16 (f64-part b ok 20 (omega arith) (between-no-nan _ _ _ (holds _ k 5)))
-      (next b 28 8 8 (f64-part b ok 28 (omega arith) (within-no-nan _ _ _ (holds _ k 6)))
+      part-next b 0 2 42 (le16-part b ok 0 (omega arith))
+      (part-next b 2 2 40 (le16-part b ok 2 (omega arith))
+      (part-next b 4 8 32 (f64-part b ok 4 (omega arith) (within-no-nan _ _ _ (holds _ k 3)))
+      (part-next b 12 8 24 (f64-part b ok 12 (omega arith) (between-no-nan _ _ _ (holds _ k 4)))
+      (part-next b 20 8 16 (f64-part b ok 20 (omega arith) (between-no-nan _ _ _ (holds _ k 5)))
+      (part-next b 28 8 8 (f64-part b ok 28 (omega arith) (within-no-nan _ _ _ (holds _ k 6)))
       (f64-part b ok 36 (omega arith) (le-no-nan _ _ (holds _ k 7))))))))
       ∙ take-all 44 b (omega arith)
 
@@ -38,15 +38,15 @@ module _ (b : List ℕ) (ok : Bytes b) where
   unfolding commonBytes commonOf hammerOf damperOf commonInRange hammerInRange
   common-part h k =
       let hammer = holds _ (holds _ k 2) in
-      next b 0 8 68 (f64-part b ok 0 (omega arith) (within-no-nan _ _ _ (holds _ k 0)))
-      (next b 8 8 60 (f64-part b ok 8 (omega arith) (within-no-nan _ _ _ (holds _ k 1)))
-      (next b 16 8 52 (f64-part b ok 16 (omega arith) (within-no-nan _ _ _ (hammer 0)))
-      (next b 24 8 44 (f64-part b ok 24 (omega arith) (within-no-nan _ _ _ (hammer 1)))
-      (next b 32 8 36 (f64-part b ok 32 (omega arith) (within-no-nan _ _ _ (hammer 2)))
-      (next b 40 8 28 (f64-part b ok 40 (omega arith) (within-no-nan _ _ _ (hammer 3)))
-      (next b 48 8 20 (f64-part b ok 48 (omega arith) (within-no-nan _ _ _ (holds _ k 3)))
-      (next b 56 8 12 (f64-part b ok 56 (omega arith) (within-no-nan _ _ _ (holds _ k 4)))
-      (next b 64 8 4 (f64-part b ok 64 (omega arith) (within-no-nan _ _ _ (holds _ k 5)))
+      part-next b 0 8 68 (f64-part b ok 0 (omega arith) (within-no-nan _ _ _ (holds _ k 0)))
+      (part-next b 8 8 60 (f64-part b ok 8 (omega arith) (within-no-nan _ _ _ (holds _ k 1)))
+      (part-next b 16 8 52 (f64-part b ok 16 (omega arith) (within-no-nan _ _ _ (hammer 0)))
+      (part-next b 24 8 44 (f64-part b ok 24 (omega arith) (within-no-nan _ _ _ (hammer 1)))
+      (part-next b 32 8 36 (f64-part b ok 32 (omega arith) (within-no-nan _ _ _ (hammer 2)))
+      (part-next b 40 8 28 (f64-part b ok 40 (omega arith) (within-no-nan _ _ _ (hammer 3)))
+      (part-next b 48 8 20 (f64-part b ok 48 (omega arith) (within-no-nan _ _ _ (holds _ k 3)))
+      (part-next b 56 8 12 (f64-part b ok 56 (omega arith) (within-no-nan _ _ _ (holds _ k 4)))
+      (part-next b 64 8 4 (f64-part b ok 64 (omega arith) (within-no-nan _ _ _ (holds _ k 5)))
       (le32-part b ok 72 (omega arith))))))))))
       ∙ take-all 76 b (omega arith)
 
@@ -76,10 +76,10 @@ module _ (b : List ℕ) (ok : Bytes b) (k : fieldedKey b ≡ true) where
   unfolding headBytes keyOf fieldedKey keyInRange
   head-part h =
       let s = holds _ (holds _ k 2) in
-      next b 0 4 32 (four-part (omega arith))
-      (next b 4 8 24 (f64-part b ok 4 (omega arith) (within-no-nan _ _ _ (s 2)))
-      (next b 12 8 16 (f64-part b ok 12 (omega arith) (within-no-nan _ _ _ (s 3)))
-      (next b 20 8 8 (f64-part b ok 20 (omega arith) (within-no-nan _ _ _ (s 4)))
+      part-next b 0 4 32 (four-part (omega arith))
+      (part-next b 4 8 24 (f64-part b ok 4 (omega arith) (within-no-nan _ _ _ (s 2)))
+      (part-next b 12 8 16 (f64-part b ok 12 (omega arith) (within-no-nan _ _ _ (s 3)))
+      (part-next b 20 8 8 (f64-part b ok 20 (omega arith) (within-no-nan _ _ _ (s 4)))
       (f64-part b ok 28 (omega arith) (within-no-nan _ _ _ (s 5))))))
 
   pub key-part : length b ≡ 36 + 44 * byteAt b 2 → keyBytes (keyOf b) (loopIn b) ≡ b
@@ -92,4 +92,4 @@ module _ (b : List ℕ) (ok : Bytes b) (k : fieldedKey b ≡ true) where
       gather-cong s (λ j. stringBytes (loopIn b j)) cut
       (λ j l. string-part (cut j) (bytes-part (36 + 44 * j) 44 b ok) (size j l) (all-at (λ j. stringInRange (loopIn b j)) s (holds _ k 3) j l))
       ∙ even-pieces b 36 44 s in
-      next b 0 36 (44 * s) (head-part (omega arith)) strings ∙ take-all (36 + 44 * s) b (omega arith)
+      part-next b 0 36 (44 * s) (head-part (omega arith)) strings ∙ take-all (36 + 44 * s) b (omega arith)

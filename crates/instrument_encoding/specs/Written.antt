@@ -16,7 +16,7 @@ use Rattle.instrument.specs.declared.Instrument.{Instrument}
 use Rattle.counting.specs.Below.{gather}
 use Rattle.instrument.specs.Valid.{keyAt, stringAt, stringSum, valid}
 use Rattle.instrument.specs.ValidLaws.{few-strings, valid-counts, keys-ranges}
-use Rattle.instrument_encoding.specs.Encode.{commonBytes, stringBytes, fourBytes, headBytes, keyBytes, sectionBytes, start, packed, encode}
+use Rattle.instrument_encoding.specs.Encode.{commonBytes, stringBytes, fourBytes, headBytes, keyBytes, sectionBytes, sectionStart, packed, encode}
 use Rattle.instrument_encoding.specs.Typed.{Typed}
 
 -- `Bytes`, by which a list can be found
@@ -86,4 +86,5 @@ module _ (i : Instrument) (t : Typed i) (v : valid i ≡ true) where
   bytes-encode =
       let d = i .«key_count» + 1 in
       let S = sectionBytes i in
-      then (word32 d) (then (all-written d (λ k. le32 (start d S k) ++ le32 (length (S k))) (λ k l. then (word32 (start d S k)) (word32 (length (S k))))) (all-written d S section-bytes)) .bytes
+      let pairs = all-written d (λ k. le32 (sectionStart d S k) ++ le32 (length (S k))) (λ k l. then (word32 (sectionStart d S k)) (word32 (length (S k)))) in
+      then (word32 d) (then pairs (all-written d S section-bytes)) .bytes

@@ -51,7 +51,7 @@ fn size_16(x: u16) -> usize
     x as usize
 }
 
-fn size_8(x: u8) -> usize
+pub fn size_8(x: u8) -> usize
     ensures { λ r. ⌜ r ≡ x ⌝ }
 {
     x as usize
@@ -103,7 +103,7 @@ pub fn read_key(b: &[u8]) -> KeyDesign
 }
 
 // A string's record, of its 44 bytes.
-pub fn read_string(b: &[u8]) -> LoopDesign
+pub fn read_loop(b: &[u8]) -> LoopDesign
     ensures { λ r. ⌜ r ≡ loopOf (now (b .entry)) ⌝ }
 {
     LoopDesign {

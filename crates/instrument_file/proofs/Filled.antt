@@ -15,7 +15,7 @@ use Rattle.counting.specs.Laws.{tabulate-more, length-tabulate, gather-more, pa
 use Rattle.instrument.specs.Valid.{keyAt, stringSum}
 use Rattle.instrument.specs.ValidLaws.{string-sum-none, string-sum-more, string-sum-within}
 use Rattle.instrument_file.specs.File.{keySection, loopIn, keysIn, stringsIn}
-use Rattle.instrument_file.specs.FileLaws.{runIn, run-length, strings-length, count-in, sum-in}
+use Rattle.instrument_file.specs.FileLaws.{runIn, length-run, strings-length, count-in, sum-in}
 
 -- ---- the first i of n keys are in place, and zeros after them
 
@@ -86,7 +86,7 @@ module _ {f : List ℕ} {n : ℕ} {keys : List KeyDesign} where
         let total : m ≡ length (gather i (runIn f)) =
         s .count ∙ ap (λ (l : List KeyDesign). stringSum l i) (s .keys-are) ∙ sum-in f n i (omega arith) ∙ sym (strings-length f i) in
         let room = strings-room h in
-        let run = run-length f i in
+        let run = length-run f i in
         let placed = pad-sets 32 noString (gather i (runIn f)) (runIn f i) (omega arith) in
         record {
           keys-are = s .keys-are;

@@ -37,12 +37,12 @@ abbrev pub runIn : List ℕ → ℕ → List LoopDesign
 runIn f k = tabulate (countIn f k) (loopIn (keySection f k))
 
 module _ (f : List ℕ) where
-  pub run-length : (k : ℕ) → length (runIn f k) ≡ countIn f k
-  run-length k = length-tabulate (countIn f k) (loopIn (keySection f k))
+  pub length-run : (k : ℕ) → length (runIn f k) ≡ countIn f k
+  length-run k = length-tabulate (countIn f k) (loopIn (keySection f k))
 
   pub strings-length : (n : ℕ) → length (stringsIn f n) ≡ sumBelow n (countIn f)
   unfolding stringsIn
-  strings-length = length-gather (runIn f) (countIn f) run-length
+  strings-length = length-gather (runIn f) (countIn f) length-run
 
 module _ (f : List ℕ) (n : ℕ) where
   abbrev keys : List KeyDesign

@@ -11,7 +11,8 @@ use instrument_fields::no_key;
 use instrument_fields::no_string;
 use instrument_fields::read_common;
 use instrument_fields::read_key;
-use instrument_fields::read_string;
+use instrument_fields::read_loop;
+use instrument_fields::size_8;
 use instrument_fields::string_in_range;
 use little_endian::byte_at;
 use little_endian::part;
@@ -36,12 +37,6 @@ pub struct ReadAnswer {
 // ---- the table and the sections
 
 fn size_32(x: u32) -> usize
-    ensures { λ r. ⌜ r ≡ x ⌝ }
-{
-    x as usize
-}
-
-fn size_8(x: u8) -> usize
     ensures { λ r. ⌜ r ≡ x ⌝ }
 {
     x as usize
@@ -144,11 +139,11 @@ fn is_measured(f: &[u8], n: usize) -> bool
 
 // ---- refusal 4
 
-fn string_in(b: &[u8], j: usize) -> LoopDesign
+fn loop_in(b: &[u8], j: usize) -> LoopDesign
     requires { ⌜ j < 256 ⌝ }
     ensures { λ r. ⌜ r ≡ loopIn (now (b .entry)) j ⌝ }
 {
-    read_string(part(b, 36 + 44 * j, 44))
+    read_loop(part(b, 36 + 44 * j, 44))
 }
 
 fn strings_fielded(b: &[u8], s: usize) -> bool
@@ -157,7 +152,7 @@ fn strings_fielded(b: &[u8], s: usize) -> bool
 {
     let mut all = true;
     for i in 0..s {
-        all = all & string_in_range(string_in(b, i));
+        all = all & string_in_range(loop_in(b, i));
     }
     all
 }
@@ -202,13 +197,13 @@ fn keys_of(f: &[u8], n: usize) -> [KeyDesign; 16]
 }
 
 // The s strings of a key's section, stored from m on.
-fn put_strings(b: &[u8], s: usize, m: usize, old: [LoopDesign; 32]) -> [LoopDesign; 32]
+fn store_strings(b: &[u8], s: usize, m: usize, old: [LoopDesign; 32]) -> [LoopDesign; 32]
     requires { ⌜ (s < 256) × (m + s ≤ 32) ⌝ }
     ensures { λ r. ⌜ r ≡ sets old m (tabulate s (loopIn (now (b .entry)))) ⌝ }
 {
     let mut out = old;
     for j in 0..s {
-        out[m + j] = string_in(b, j);
+        out[m + j] = loop_in(b, j);
     }
     out
 }
@@ -223,7 +218,7 @@ fn strings_of(f: &[u8], n: usize, keys: [KeyDesign; 16]) -> [LoopDesign; 32]
     for i in 0..n {
         let k = keys[i];
         let s = k.strings;
-        let next = put_strings(section_at(f, i + 1), s, m, out);
+        let next = store_strings(section_at(f, i + 1), s, m, out);
         out = next;
         m += s;
     }

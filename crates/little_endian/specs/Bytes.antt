@@ -39,8 +39,8 @@ module _ {A : Type 0} where
   join b p k r = ap (λ (l : List A). take k (drop p b) ++ take r l) (sym (drop-drop k p b)) ∙ sym (take-add k r (drop p b))
 
   -- the k elements from p on and the r after them
-  pub next : (b : List A) (p k r : ℕ) {x y : List A} → x ≡ take k (drop p b) → y ≡ take r (drop (p + k) b) → x ++ y ≡ take (k + r) (drop p b)
-  next b p k r e g = both e g ∙ join b p k r
+  pub part-next : (b : List A) (p k r : ℕ) {x y : List A} → x ≡ take k (drop p b) → y ≡ take r (drop (p + k) b) → x ++ y ≡ take (k + r) (drop p b)
+  part-next b p k r e g = both e g ∙ join b p k r
 
 -- ---- from the number to the bytes that it was read from
 

@@ -26,11 +26,11 @@ start c =
     let b = start-below (length (s .args .x .now)) (s .args .factor) (l .i) (s .pre .several) (rw (s .pre .room) at (c .loop-test .taken)) in
     omega (arith, s .pre .most)
 
-mul-filtered : tie.Need-mul-filtered Inv-loop μ-loop
-mul-filtered c = let b = start c in omega arith
+mul-filtered-at : tie.Need-mul-filtered-at Inv-loop μ-loop
+mul-filtered-at c = let b = start c in omega arith
 
-filtered-requires : tie.Need-filtered-requires Inv-loop μ-loop
-filtered-requires c κs = (start c, c .before .before .before .before .before .pre .many)
+filtered-at-requires : tie.Need-filtered-at-requires Inv-loop μ-loop
+filtered-at-requires c κs = (start c, c .before .before .before .before .before .pre .many)
 
 mul-out : tie.Need-mul-out Inv-loop μ-loop
 mul-out c = search needs
@@ -47,7 +47,7 @@ loop-less c = search needs
 loop-again : tie.Need-loop-again Inv-loop μ-loop
 loop-again c =
     let l = c .before .before .loop in
-    (refl, stored-turn (l .inv .1) (c .before .loop-test .taken) (c .filtered .ensures))
+    (refl, stored-turn (l .inv .1) (c .before .loop-test .taken) (c .filtered-at .ensures))
 
 same-length : tie.Need-same-length Inv-loop μ-loop
 same-length c = search needs
@@ -62,8 +62,8 @@ thin-spec =
     Inv-loop
     μ-loop
     loop-holds
-    mul-filtered
-    filtered-requires
+    mul-filtered-at
+    filtered-at-requires
     mul-out
     slice-write-out
     add-i

@@ -2,7 +2,7 @@
 use mathlib.Core.Path.{_≡_, sym, _∙_}
 use native.Mathlib.Omega.{arith}
 use borrow.Author.Tests.{not-false}
-use Rattle.instrument.specs.WorkLaws.{cells-are}
+use Rattle.instrument.specs.WorkLaws.{part-counted}
 use borrow.Author.Needs.{needs}
 use Rattle.energies_exports.proofs.energies_in.Statement.{statement}
 use Rattle.energies_exports.proofs.energies_in.Tie as tie
@@ -27,7 +27,7 @@ part-energies-requires c κs =
     let valid = c .before .before .before in
     let i = valid .before .before .read .result .instrument in
     let passes = sym (valid .is-valid .ensures) ∙ not-false _ (c .before .before .if1 .left) in
-    (passes, omega (arith, sym (c .before .part-cells .ensures .0 ∙ cells-are i passes), c .if2 .left))
+    (passes, omega (arith, sym (c .before .part-cells .ensures .0 ∙ part-counted i passes), c .if2 .left))
 
 table-of-requires : tie.Need-table-of-requires
 table-of-requires c κs = search needs

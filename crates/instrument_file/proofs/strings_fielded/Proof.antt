@@ -18,8 +18,8 @@ abbrev μ-loop : tie.MeasureT-loop
 loop-holds : tie.Need-loop-holds Inv-loop μ-loop
 loop-holds c = tested-none
 
-string-in-requires : tie.Need-string-in-requires Inv-loop μ-loop
-string-in-requires c κs = search needs
+loop-in-requires : tie.Need-loop-in-requires Inv-loop μ-loop
+loop-in-requires c κs = search needs
 
 string-in-range-requires : tie.Need-string-in-range-requires Inv-loop μ-loop
 string-in-range-requires c κs = search needs
@@ -31,7 +31,7 @@ loop-less : tie.Need-loop-less Inv-loop μ-loop
 loop-less c = search needs
 
 loop-again : tie.Need-loop-again Inv-loop μ-loop
-loop-again c = tested-next (c .before .before .before .loop .inv) (omega arith) (c .string-in-range .ensures ∙ ap stringInRange (c .before .string-in .ensures))
+loop-again c = tested-next (c .before .before .before .loop .inv) (omega arith) (c .string-in-range .ensures ∙ ap stringInRange (c .before .loop-in .ensures))
 
 returns : tie.Need-returns Inv-loop μ-loop
 returns c = tested-all (c .before .loop .inv) (c .loop-test .left)
@@ -43,7 +43,7 @@ strings-fielded-spec =
     Inv-loop
     μ-loop
     loop-holds
-    string-in-requires
+    loop-in-requires
     string-in-range-requires
     add-i
     loop-less

@@ -30,8 +30,8 @@ add-section-at c = search needs
 section-at-requires : tie.Need-section-at-requires Inv-loop μ-loop
 section-at-requires c κs = search needs
 
-put-strings-requires : tie.Need-put-strings-requires Inv-loop μ-loop
-put-strings-requires c κs =
+store-strings-requires : tie.Need-store-strings-requires Inv-loop μ-loop
+store-strings-requires c κs =
     let room = strings-room (c .before .before .before .loop .inv) (omega arith) in
     (omega arith, omega arith)
 
@@ -47,7 +47,7 @@ loop-less : tie.Need-loop-less Inv-loop μ-loop
 loop-less c = search needs
 
 loop-again : tie.Need-loop-again Inv-loop μ-loop
-loop-again c = strings-next (c .before .before .before .before .loop .inv) (omega arith) (c .before .section-at .ensures) (c .put-strings .ensures)
+loop-again c = strings-next (c .before .before .before .before .loop .inv) (omega arith) (c .before .section-at .ensures) (c .store-strings .ensures)
 
 returns : tie.Need-returns Inv-loop μ-loop
 returns c = strings-all (c .before .loop .inv) (c .loop-test .left)
@@ -64,7 +64,7 @@ strings-of-spec =
     array-copy-out-k
     add-section-at
     section-at-requires
-    put-strings-requires
+    store-strings-requires
     add-m
     add-i
     loop-less

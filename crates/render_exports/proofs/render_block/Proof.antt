@@ -4,7 +4,7 @@ use Prim.Native.Nat.{_≤_}
 use native.Mathlib.Omega.{arith}
 use borrow.Author.Tests.{not-false}
 use Rattle.instrument.specs.Work.{partCells}
-use Rattle.instrument.specs.WorkLaws.{cells-are}
+use Rattle.instrument.specs.WorkLaws.{part-counted}
 use Rattle.render.specs.Work.{valid-renderable}
 use borrow.Author.Needs.{needs}
 use Rattle.render_exports.proofs.render_block.Statement.{statement}
@@ -54,7 +54,7 @@ render-requires c κs =
     let valid = checked .before .before in
     let i = valid .before .before .read .result .instrument in
     let passes = sym (valid .is-valid .ensures) ∙ not-false _ (checked .before .if1 .left) in
-    let w = sym (checked .part-cells .ensures .0 ∙ cells-are i passes) in (
+    let w = sym (checked .part-cells .ensures .0 ∙ part-counted i passes) in (
       valid-renderable i passes _ _ (omega (arith, w, cells .if2 .left)) (room .if3 .left),
       (
         score .score-of .ensures,

@@ -3,8 +3,8 @@ use Prim.Native.Nat.{_-_}
 use native.Mathlib.Omega.{arith}
 use borrow.Author.Needs.{needs}
 use Rattle.instrument_file.proofs.Filled.{RunStored, run-none, run-next, run-all}
-use Rattle.instrument_file.proofs.put_strings.Statement.{statement}
-use Rattle.instrument_file.proofs.put_strings.Tie as tie
+use Rattle.instrument_file.proofs.store_strings.Statement.{statement}
+use Rattle.instrument_file.proofs.store_strings.Tie as tie
 
 abbrev Inv-loop : tie.InvT-loop
 Inv-loop b s m out₀ j₀ out j = RunStored b s m out₀ out j
@@ -15,8 +15,8 @@ abbrev μ-loop : tie.MeasureT-loop
 loop-holds : tie.Need-loop-holds Inv-loop μ-loop
 loop-holds c = run-none
 
-string-in-requires : tie.Need-string-in-requires Inv-loop μ-loop
-string-in-requires c κs = search needs
+loop-in-requires : tie.Need-loop-in-requires Inv-loop μ-loop
+loop-in-requires c κs = search needs
 
 add-out : tie.Need-add-out Inv-loop μ-loop
 add-out c = search needs
@@ -34,19 +34,19 @@ loop-less : tie.Need-loop-less Inv-loop μ-loop
 loop-less c = search needs
 
 loop-again : tie.Need-loop-again Inv-loop μ-loop
-loop-again c = run-next (c .before .before .loop .inv) (omega arith) (c .string-in .ensures)
+loop-again c = run-next (c .before .before .loop .inv) (omega arith) (c .loop-in .ensures)
 
 returns : tie.Need-returns Inv-loop μ-loop
 returns c = run-all (c .before .loop .inv) (c .loop-test .left)
 
-pub put-strings-spec : {M : Type 1} → statement M
-put-strings-spec =
+pub store-strings-spec : {M : Type 1} → statement M
+store-strings-spec =
     tie.close
     (tie.spec
     Inv-loop
     μ-loop
     loop-holds
-    string-in-requires
+    loop-in-requires
     add-out
     mul-out
     array-set-from-out

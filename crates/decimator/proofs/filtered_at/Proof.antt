@@ -1,12 +1,12 @@
--- `decimator::filtered` meets its contract. The invariant: the sum is that of the taps before k. Assumes nothing.
+-- `decimator::filtered_at` meets its contract. The invariant: the sum is that of the taps before k. Assumes nothing.
 use mathlib.Core.Path.{_≡_, refl, _∙_, ap}
 use Prim.Native.Nat.{_-_, _≤_}
 use native.Mathlib.Omega.{arith}
 use Rattle.decimator.specs.Decimate.{tapSum}
 use Rattle.decimator.proofs.Cases.{tap-sum-more}
 use borrow.Author.Needs.{needs}
-use Rattle.decimator.proofs.filtered.Statement.{statement}
-use Rattle.decimator.proofs.filtered.Tie as tie
+use Rattle.decimator.proofs.filtered_at.Statement.{statement}
+use Rattle.decimator.proofs.filtered_at.Tie as tie
 
 abbrev Inv-loop : tie.InvT-loop
 Inv-loop x taps at sum₀ k₀ sum k = (k ≤ 127) × (sum ≡ tapSum x taps at k)
@@ -39,7 +39,7 @@ returns c =
     let a = c .before .before .before .before .args in
     l .inv .1 ∙ ap (tapSum (a .x .now) (a .taps .now) (a .at)) (omega arith)
 
-pub filtered-spec : {M : Type 1} → statement M
-filtered-spec =
+pub filtered-at-spec : {M : Type 1} → statement M
+filtered-at-spec =
     tie.close
     (tie.spec Inv-loop μ-loop loop-holds weigh-requires add-k loop-less loop-again returns)

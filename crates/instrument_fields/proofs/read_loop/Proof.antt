@@ -1,8 +1,8 @@
 -- Each field is the number at its place, as specs/Fields.antt has it: the contracts of the reads, field by field.
 use Rattle.instrument_fields.specs.Fields.{loopOf}
 use borrow.Author.Needs.{needs}
-use Rattle.instrument_fields.proofs.read_string.Statement.{statement}
-use Rattle.instrument_fields.proofs.read_string.Tie as tie
+use Rattle.instrument_fields.proofs.read_loop.Statement.{statement}
+use Rattle.instrument_fields.proofs.read_loop.Tie as tie
 
 u16-at-requires : tie.Need-u16-at-requires
 u16-at-requires c κs = search needs
@@ -35,8 +35,8 @@ returns : tie.Need-returns
 unfolding loopOf
 returns c = cc
 
-pub read-string-spec : {M : Type 1} → statement M
-read-string-spec =
+pub read-loop-spec : {M : Type 1} → statement M
+read-loop-spec =
     tie.close
     (tie.spec
     u16-at-requires
