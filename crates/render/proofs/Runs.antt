@@ -1,208 +1,238 @@
--- Runs one after the other are one run; and a stretch with no events behind its first sample is a run of the score.
+-- How a render goes on: runs one after the other are one run; a stretch with no event behind its first sample is a run of the score; and what filled tables
+-- give the functions that read them.
 use mathlib.Core.Path.{_≡_, refl, sym, ap, _∙_}
-use mathlib.Core.Bool.{Bool}
+use mathlib.Core.Bool.{Bool, false}
 use mathlib.Core.List.{List, [], _∷_, _++_}
 use Prim.Native.Nat.{ℕ, zero, suc, _+_, _-_, _≤_, _<_}
 use native.Mathlib.Nat.{add-zero, zero-add}
 use native.Mathlib.Omega.{arith}
-use lib.ListN.{length, length-append}
+use lib.ListN.{length, getD, set, length-append}
 use lib.Seq.{sets, length-sets}
 use lib.Ieee.{Float}
+use Rattle.cells.specs.Numbered.{list-length}
+use Rattle.instrument.specs.declared.Instrument.{Instrument}
+use Rattle.string.specs.Table.{tableStrings}
 use Rattle.sample.specs.declared.Motion.{Motion}
-use Rattle.sample.specs.declared.Setup.{Setup}
 use Rattle.sample.specs.Sample.{Model, Step, Ready, modelAt, sampled}
+use Rattle.sample.specs.Laws.{sampled-count, sampled-force, sampled-same}
+use Rattle.sample_constants.specs.Model.{setupOf, stringsOf, modelOf, keyIn, KeysFilled, StringsFilled}
+use Rattle.sample_constants.specs.Laws.{filled-fit, filled-strings, filled-model}
 use Rattle.score.specs.declared.Piano.{Piano}
 use Rattle.score.specs.declared.TimedEvent.{TimedEvent}
 use Rattle.score.specs.Events.{State, Playable, isDown, applyAll}
 use Rattle.score.specs.Score.{eventsAt}
-use Rattle.cells.specs.Numbered.{list-length}
-use Rattle.instrument.specs.declared.Instrument.{Instrument}
-use Rattle.string.specs.Table.{tableStrings}
-use Rattle.sample_constants.specs.Model.{setupOf, stringsOf, modelOf, keyIn}
-use Rattle.sample_constants.specs.Laws.{filled-fit, filled-strings, filled-model}
-use Rattle.render.specs.Laws.{stepped-same}
-use Rattle.render.specs.Steps.{stateAfter, valuesOf, run-add, values-add, values-length, run-keeps, sets-append}
-use Rattle.render.specs.Render.{Went, Rendered, Loaded, Played, withMotion, stepped, played, stillNext, stillOut, stillForce, stateNext, sampleAt, samplesAt, pushedAt}
+use Rattle.score.specs.Laws.{apply-all-count}
+use Rattle.render.specs.declared.Run.{Run}
+use Rattle.render.specs.declared.Stretch.{Stretch}
+use Rattle.render.specs.Steps.{stateAfter, valuesOf, run-add, values-add, values-length, values-each, run-keeps, sets-append}
+use Rattle.render.specs.Render.{Stepped, Rendering, Advanced, InRange, NextStretch, Renderable, Rendered, withMotion, stepped, sampleWith, sampleAt}
+use Rattle.render.specs.Render.{stateBy, samplesBy, forcesBy, run, renderingOf, unstarted, stretchStep}
 
-module _ {next : ℕ → State → State} {out : ℕ → State → Float} {force : ℕ → State → List Float} where
+-- ---- a render that goes on
+
+module _ {step : ℕ → State → Stepped} where
   -- nothing done yet
-  pub went-start : (t : ℕ) (s : State) (o tr : List Float) (done pushed : ℕ) → Went next out force t s o tr done pushed s o tr done pushed
+  pub advanced-start : (t : ℕ) (a : Rendering) → Advanced step t a a
   unfolding stateAfter valuesOf
-  went-start t s o tr done pushed =
-      let z : done - done ≡ 0 = omega arith in
-      record { from = omega arith; state = rw z; outs = rw z; trace = rw z; count = rw z (omega arith) }
+  advanced-start t a =
+      let z : a .done - a .done ≡ 0 = omega arith in
+      record { from = omega arith; state = rw z; outs = rw z; traced = rw z; forced = rw z (omega arith) }
 
-  -- one sample
-  pub went-one : (t : ℕ) (s : State) (o tr : List Float) (done pushed : ℕ) (s' : State) (o' tr' : List Float) (pushed' : ℕ)
-      → s' ≡ next t s → o' ≡ sets o done (out t s ∷ []) → tr' ≡ sets tr pushed (force t s) → pushed' ≡ pushed + length (force t s)
-      → Went next out force t s o tr done pushed s' o' tr' (done + 1) pushed'
-  unfolding stateAfter valuesOf
-  went-one t s o tr done pushed s' o' tr' pushed' hs ho ht hp =
+  -- from a to b, and then from b to d
+  module _ {t : ℕ} {a b d : Rendering} (ab : Advanced step t a b) (bd : Advanced step t b d) where
+    abbrev n₁ : ℕ
+    n₁ = b .done - a .done
+
+    abbrev n₂ : ℕ
+    n₂ = d .done - b .done
+
+    abbrev next : ℕ → State → State
+    next u x = step u x .state
+
+    pub advanced-then : Advanced step t a d
+    advanced-then =
+        let af = ab .from in
+        let bf = bd .from in
+        let n : d .done - a .done ≡ b .done - a .done + (d .done - b .done) = omega arith in
+        let place : t + b .done ≡ t + a .done + (b .done - a .done) = omega arith in
+        let s₁ = stateBy step (t + a .done) n₁ (a .state) in
+        let v₁ = samplesBy step (t + a .done) n₁ (a .state) in
+        let v₂ = samplesBy step (t + a .done + n₁) n₂ s₁ in
+        let f₁ = forcesBy step (t + a .done) n₁ (a .state) in
+        let f₂ = forcesBy step (t + a .done + n₁) n₂ s₁ in
+        let vs : samplesBy step (t + a .done) (d .done - a .done) (a .state) ≡ v₁ ++ v₂ =
+        rw n (values-add next (λ u x. step u x .out ∷ []) (t + a .done) n₁ n₂ (a .state)) in
+        let fs : forcesBy step (t + a .done) (d .done - a .done) (a .state) ≡ f₁ ++ f₂ = rw n (values-add next (λ u x. step u x .force) (t + a .done) n₁ n₂ (a .state)) in
+        let l : b .done ≡ a .done + length v₁ = omega (arith, values-length next (λ u x. step u x .out) (t + a .done) n₁ (a .state)) in
+        let st : d .state ≡ stateBy step (t + a .done + n₁) n₂ s₁ = rw (ab .state, place) at (bd .state) in
+        let ot : d .out ≡ sets (sets (a .out) (a .done) v₁) (b .done) v₂ = rw (ab .outs, ab .state, place) at (bd .outs) in
+        let tt : d .trace ≡ sets (sets (a .trace) (a .pushed) f₁) (b .pushed) f₂ = rw (ab .traced, ab .state, place) at (bd .traced) in
+        let kt : d .pushed ≡ b .pushed + length f₂ = rw (ab .state, place) at (bd .forced) in
+        record {
+          from = omega arith;
+          state = st ∙ sym (run-add next (t + a .done) n₁ n₂ (a .state)) ∙ ap (λ (x : ℕ). stateBy step (t + a .done) x (a .state)) (sym n);
+          outs = ot ∙ ap (λ (x : ℕ). sets (sets (a .out) (a .done) v₁) x v₂) l ∙ sym (sets-append (a .out) (a .done) v₁ v₂)
+              ∙ ap (λ (x : List Float). sets (a .out) (a .done) x) (sym vs);
+          traced = tt ∙ ap (λ (x : ℕ). sets (sets (a .trace) (a .pushed) f₁) x f₂) (ab .forced) ∙ sym (sets-append (a .trace) (a .pushed) f₁ f₂)
+              ∙ ap (λ (x : List Float). sets (a .trace) (a .pushed) x) (sym fs);
+          forced = rw fs (omega (arith, kt, ab .forced, length-append f₁ f₂));
+        }
+
+  -- the buffers keep their lengths
+  pub advanced-lengths : {t : ℕ} {a b : Rendering} → Advanced step t a b → (length (b .out) ≡ length (a .out)) × (length (b .trace) ≡ length (a .trace))
+  advanced-lengths {t} {a} {b} w = (ap length (w .outs) ∙ simp length-sets, ap length (w .traced) ∙ simp length-sets)
+
+-- a render from the start of its buffers, m samples done, is the promise of `render`
+pub advanced-rendered : (i : Instrument) (score : List TimedEvent) (t m : ℕ) {p : Piano} {w o tr : List Float} {b : Rendering} → Advanced (sampleAt i score) t (unstarted p w o tr) b
+    → b .done ≡ m → Rendered i score t m (unstarted p w o tr) b
+advanced-rendered i score t m {b = b} w h =
+    let z : b .done - 0 ≡ m = omega arith in
+    record {
+      state = rw (add-zero t, z) at (w .state);
+      outs = rw (add-zero t, z) at (w .outs);
+      traced = rw (add-zero t, z) at (w .traced);
+      counted = h;
+      forced = rw (add-zero t, z) at (w .forced) ∙ zero-add _;
+    }
+
+-- ---- one turn of the loop over samples
+
+-- the code's run where the loop stands
+abbrev pub runOf : Piano → List Float → Motion → ℕ → ℕ → Run
+runOf p R motion done pushed = record { piano = withMotion p R motion; done = done; pushed = pushed }
+
+module _ (m : Model) (down : ℕ → Bool) (t : ℕ) (p : Piano) (R : List Float) (motion : Motion) (w : List Float) (done pushed : ℕ)
+    (step : Step) (e : step ≡ sampled m down (t + done) R motion w) (pushed' : ℕ) (hp : pushed' ≡ pushed + length (step .force)) where
+  abbrev before : Run
+  before = runOf p R motion done pushed
+
+  abbrev after : Run
+  after = runOf p (step .«damper_r») (step .motion) (done + 1) pushed'
+
+  -- a sample, its output stored and its force pushed
+  turn-advanced : {out trace out' trace' : List Float} → out' ≡ set out done (step .out) → trace' ≡ sets trace pushed (step .force)
+      → Advanced (stepped m down) t (renderingOf before w out trace) (renderingOf after (step .cells) out' trace')
+  unfolding stateAfter valuesOf stepped
+  turn-advanced ho ht =
       let z : done + 1 - done ≡ 1 = omega arith in
       record {
         from = omega arith;
-        state = rw (z, add-zero t) hs;
-        outs = rw (z, add-zero t) ho;
-        trace = rw (z, add-zero t) ht;
-        count = rw (z, add-zero t) hp;
+        state = rw (z, add-zero (t + done), ← e);
+        outs = rw (z, add-zero (t + done), ← e) ho;
+        traced = rw (z, add-zero (t + done), ← e) ht;
+        forced = rw (z, add-zero (t + done), ← e) hp;
       }
 
-  -- a run, and then a run from where it stopped
-  pub went-then : {t : ℕ} {s₀ : State} {o₀ tr₀ : List Float} {d₀ k₀ : ℕ} {s₁ : State} {o₁ tr₁ : List Float} {d₁ k₁ : ℕ} {s₂ : State} {o₂ tr₂ : List Float} {d₂ k₂ : ℕ} (u : ℕ)
-      → Went next out force t s₀ o₀ tr₀ d₀ k₀ s₁ o₁ tr₁ d₁ k₁ → u ≡ t + (d₁ - d₀) → Went next out force u s₁ o₁ tr₁ d₁ k₁ s₂ o₂ tr₂ d₂ k₂
-      → Went next out force t s₀ o₀ tr₀ d₀ k₀ s₂ o₂ tr₂ d₂ k₂
-  went-then {t} {s₀} {o₀} {tr₀} {d₀} {k₀} {s₁} {o₁} {tr₁} {d₁} {k₁} {s₂} {o₂} {tr₂} {d₂} {k₂} u a e b =
-      let m = d₁ - d₀ in
-      let k = d₂ - d₁ in
-      let af = a .from in
-      let bf = b .from in
-      let n : d₂ - d₀ ≡ d₁ - d₀ + (d₂ - d₁) = omega arith in
-      let outs : ℕ → State → List Float = λ u x. out u x ∷ [] in
-      let v₁ = valuesOf next outs t m s₀ in
-      let v₂ = valuesOf next outs (t + m) k (stateAfter next t m s₀) in
-      let f₁ = valuesOf next force t m s₀ in
-      let f₂ = valuesOf next force (t + m) k (stateAfter next t m s₀) in
-      let vs : valuesOf next (λ u x. out u x ∷ []) t (d₂ - d₀) s₀ ≡ v₁ ++ v₂ = rw n (values-add next outs t m k s₀) in
-      let fs : valuesOf next force t (d₂ - d₀) s₀ ≡ f₁ ++ f₂ = rw n (values-add next force t m k s₀) in
-      let l : d₁ ≡ d₀ + length v₁ = omega (arith, values-length next out t m s₀) in
-      let st : s₂ ≡ stateAfter next (t + m) k (stateAfter next t m s₀) = rw (a .state, e) at (b .state) in
-      let ot : o₂ ≡ sets (sets o₀ d₀ v₁) d₁ v₂ = rw (a .outs, a .state, e) at (b .outs) in
-      let tt : tr₂ ≡ sets (sets tr₀ k₀ f₁) k₁ f₂ = rw (a .trace, a .state, e) at (b .trace) in
-      let kt : k₂ ≡ k₁ + length f₂ = rw (a .state, e) at (b .count) in
-      record {
-        from = omega arith;
-        state = st ∙ sym (run-add next t m k s₀) ∙ ap (λ (x : ℕ). stateAfter next t x s₀) (sym n);
-        outs = ot ∙ ap (λ (x : ℕ). sets (sets o₀ d₀ v₁) x v₂) l ∙ sym (sets-append o₀ d₀ v₁ v₂) ∙ ap (λ (x : List Float). sets o₀ d₀ x) (sym vs);
-        trace = tt ∙ ap (λ (x : ℕ). sets (sets tr₀ k₀ f₁) x f₂) (a .count) ∙ sym (sets-append tr₀ k₀ f₁ f₂) ∙ ap (λ (x : List Float). sets tr₀ k₀ x) (sym fs);
-        count = rw fs (omega (arith, kt, a .count, length-append f₁ f₂));
-      }
+  -- the counts stay within the position
+  turn-in-range : {stop : ℕ} → InRange before t stop → done < stop → InRange after t stop
+  turn-in-range r more =
+      let count = rw (← e) at (sampled-count m down (t + done) R motion w) in
+      let few = rw (← e) at (sampled-force m down (t + done) R motion w) in
+      record { below = omega arith; end = r .end; contact = omega (arith, r .contact); pushes = omega (arith, r .pushes) }
 
--- a run keeps the lengths of its buffers
-pub went-lengths : {next : ℕ → State → State} {out : ℕ → State → Float} {force : ℕ → State → List Float} {t : ℕ} {s₀ : State} {o₀ tr₀ : List Float} {d₀ k₀ : ℕ} {s : State} {o tr : List Float} {d k : ℕ}
-    → Went next out force t s₀ o₀ tr₀ d₀ k₀ s o tr d k → (length o ≡ length o₀) × (length tr ≡ length tr₀)
-went-lengths {next} {out} {force} {t} {s₀} {o₀} {tr₀} {d₀} {k₀} {s} {o} {tr} {d} {k} w = (
-  ap length (w .outs) ∙ length-sets o₀ d₀ (valuesOf next (λ u x. out u x ∷ []) t (d - d₀) s₀),
-  ap length (w .trace) ∙ length-sets tr₀ k₀ (valuesOf next force t (d - d₀) s₀),
-)
+  pub one-turn : {stop : ℕ} {out trace out' trace' : List Float} → InRange before t stop → done < stop → out' ≡ set out done (step .out) → trace' ≡ sets trace pushed (step .force)
+      → Advanced (stepped m down) t (renderingOf before w out trace) (renderingOf after (step .cells) out' trace') × InRange after t stop
+  one-turn r more ho ht = (turn-advanced ho ht, turn-in-range r more)
 
--- the code's sample is the step of a piano with those dampers and that hammer
-module _ (m : Model) (down : ℕ → Bool) (t : ℕ) (p : Piano) (R : List Float) (motion : Motion) (w : List Float) (step : Step) (e : step ≡ sampled m down t R motion w) where
-  abbrev before : State
-  before = record { piano = withMotion p R motion; cells = w }
+-- ---- the samples of a stretch are the score's
 
-  abbrev after : State
-  after = record { piano = withMotion p (step .«damper_r») (step .motion); cells = step .cells }
-
-  pub step-state : after ≡ stepped m down t before .state
-  unfolding stepped
-  step-state = rw e
-
-  pub step-out : step .out ≡ stepped m down t before .out
-  unfolding stepped
-  step-out = rw e
-
-  pub step-force : step .force ≡ stepped m down t before .force
-  unfolding stepped
-  step-force = rw e
-
--- A stretch: the events of sample t act, and no events lie behind it.
 module _ (i : Instrument) (score : List TimedEvent) (t : ℕ) (s e : State) (D : ℕ → Bool) (he : e ≡ applyAll i (stringsOf i) (eventsAt score t) s)
     (agree : (k : ℕ) → k < i .«key_count» → D k ≡ isDown i (e .piano) k) where
-  agreed : (x : State) → ((k : ℕ) → isDown i (x .piano) k ≡ isDown i (e .piano) k) → (k : ℕ) → k < length (modelOf i .keys) → isDown i (x .piano) k ≡ D k
-  agreed x h k q = h k ∙ sym (agree k (omega (arith, q, list-length (keyIn i) 0 (i .«key_count»))))
-
-  -- its first sample
-  first : played i t (eventsAt score t) s ≡ stepped (modelOf i) D t e
-  unfolding played
-  first = rw (← he) (stepped-same (modelOf i) (isDown i (e .piano)) D t e (agreed e (λ k. refl)))
-
-  -- the others
-  other : (u : ℕ) (x : State) → ((k : ℕ) → isDown i (x .piano) k ≡ isDown i (e .piano) k) → eventsAt score u ≡ [] → played i u (eventsAt score u) x ≡ stepped (modelOf i) D u x
-  unfolding played applyAll
-  other u x h q = rw q (stepped-same (modelOf i) (isDown i (x .piano)) D u x (agreed x h))
+  abbrev still : ℕ → State → Stepped
+  still = stepped (modelOf i) D
 
   -- no sample touches what the dampers look at
-  kept : (n k : ℕ) → isDown i (stateAfter (stillNext (modelOf i) D) t n e .piano) k ≡ isDown i (e .piano) k
+  kept : (n k : ℕ) → isDown i (stateBy still t n e .piano) k ≡ isDown i (e .piano) k
   unfolding stepped
-  kept n k = run-keeps (stillNext (modelOf i) D) (λ (x : State). isDown i (x .piano) k) t n e (λ u x. refl)
+  kept n k = run-keeps (λ u x. still u x .state) (λ (x : State). isDown i (x .piano) k) t n e (λ u x. refl)
 
-  pub stretch-state : (n : ℕ) → ((u : ℕ) → t + 1 ≤ u → u < t + suc n → eventsAt score u ≡ [])
-      → stateAfter (stateNext i score) t (suc n) s ≡ stateAfter (stillNext (modelOf i) D) t (suc n) e
+  -- so `D` says which are to be down
+  down-same : (u : ℕ) (x : State) → ((k : ℕ) → isDown i (x .piano) k ≡ isDown i (e .piano) k) → stepped (modelOf i) (isDown i (x .piano)) u x ≡ still u x
+  unfolding stepped
+  down-same u x h =
+      rw (sampled-same (modelOf i) (isDown i (x .piano)) u (x .piano .«damper_r») (x .piano .motion) (x .cells) D
+      (λ k q. h k ∙ sym (agree k (omega (arith, q, list-length (keyIn i) 0 (i .«key_count»))))))
+
+  first-same : sampleAt i score t s ≡ still t e
+  unfolding sampleWith
+  first-same = rw (← he) (down-same t e (λ k. refl))
+
+  later-same : (u : ℕ) (x : State) → ((k : ℕ) → isDown i (x .piano) k ≡ isDown i (e .piano) k) → eventsAt score u ≡ [] → sampleAt i score u x ≡ still u x
+  unfolding sampleWith applyAll
+  later-same u x h q = rw q (down-same u x h)
+
+  pub sample-same : (n : ℕ) → ((u : ℕ) → t + 1 ≤ u → u < t + suc n → eventsAt score u ≡ []) → sampleAt i score (t + n) (run i score t n s) ≡ still (t + n) (stateBy still t n e)
   unfolding stateAfter
-  stretch-state zero h = rw (add-zero t) (ap (λ (x : Played). x .state) first)
-  stretch-state (suc n) h =
-      let y = stateAfter (stillNext (modelOf i) D) t (suc n) e in
-      ap (λ (x : State). stateNext i score (t + suc n) x) (stretch-state n (λ u a b. h u a (omega arith)))
-      ∙ ap (λ (x : Played). x .state) (other (t + suc n) y (kept (suc n)) (h (t + suc n) (omega arith) (omega arith)))
+  sample-same zero none = rw (add-zero t) first-same
+  sample-same (suc n) none =
+      ap (λ (x : Stepped). sampleAt i score (t + suc n) (x .state)) (sample-same n (λ u a b. none u a (omega arith)))
+      ∙ later-same (t + suc n) (stateBy still t (suc n) e) (kept (suc n)) (none (t + suc n) (omega arith) (omega arith))
 
-  -- what is listed of each sample, for any part g of it
-  pub stretch-values : (g : Played → List Float) (n : ℕ) → ((u : ℕ) → t + 1 ≤ u → u < t + suc n → eventsAt score u ≡ [])
-      → valuesOf (stateNext i score) (λ u x. g (played i u (eventsAt score u) x)) t (suc n) s ≡ valuesOf (stillNext (modelOf i) D) (λ u x. g (stepped (modelOf i) D u x)) t (suc n) e
-  unfolding valuesOf stateAfter
-  stretch-values g zero h = rw (add-zero t) (ap g first)
-  stretch-values g (suc n) h =
-      let y = stateAfter (stillNext (modelOf i) D) t (suc n) e in
-      let vs = stretch-values g n (λ u a b. h u a (omega arith)) in
-      let st = stretch-state n (λ u a b. h u a (omega arith)) in
-      ap (λ (l : List Float). l ++ g (played i (t + suc n) (eventsAt score (t + suc n)) (stateAfter (stateNext i score) t (suc n) s))) vs
-      ∙ ap (λ (x : State). valuesOf (stillNext (modelOf i) D) (λ u x. g (stepped (modelOf i) D u x)) t (suc n) e ++ g (played i (t + suc n) (eventsAt score (t + suc n)) x)) st
-      ∙ ap (λ (x : Played). valuesOf (stillNext (modelOf i) D) (λ u x. g (stepped (modelOf i) D u x)) t (suc n) e ++ g x)
-      (other (t + suc n) y (kept (suc n)) (h (t + suc n) (omega arith) (omega arith)))
+-- ---- what filled tables give the functions that read them
 
-  -- so a run of such samples in buffers is a run of the score
-  pub stretch-went : {o₀ tr₀ : List Float} {d₀ k₀ : ℕ} {s' : State} {o tr : List Float} {d k : ℕ}
-      → Went (stillNext (modelOf i) D) (stillOut (modelOf i) D) (stillForce (modelOf i) D) t e o₀ tr₀ d₀ k₀ s' o tr d k → d₀ < d
-      → ((u : ℕ) → t + 1 ≤ u → u < t + (d - d₀) → eventsAt score u ≡ [])
-      → Went (stateNext i score) (sampleAt i score) (pushedAt i score) t s o₀ tr₀ d₀ k₀ s' o tr d k
-  stretch-went {o₀} {tr₀} {d₀} {k₀} {s'} {o} {tr} {d} {k} w more h =
-      let n : d - d₀ ≡ suc (d - d₀ - 1) = omega arith in
-      let q = rw n at h in
-      let st : stateAfter (stateNext i score) t (d - d₀) s ≡ stateAfter (stillNext (modelOf i) D) t (d - d₀) e = rw n (stretch-state (d - d₀ - 1) q) in
-      let vs : valuesOf (stateNext i score) (samplesAt i score) t (d - d₀) s ≡ valuesOf (stillNext (modelOf i) D) (λ u x. stillOut (modelOf i) D u x ∷ []) t (d - d₀) e = rw n (stretch-values (λ x. x .out ∷ []) (d - d₀ - 1) q) in
-      let fs : valuesOf (stateNext i score) (pushedAt i score) t (d - d₀) s ≡ valuesOf (stillNext (modelOf i) D) (stillForce (modelOf i) D) t (d - d₀) e = rw n (stretch-values (λ x. x .force) (d - d₀ - 1) q) in
-      record {
-        from = w .from;
-        state = w .state ∙ sym st;
-        outs = w .outs ∙ ap (λ (l : List Float). sets o₀ d₀ l) (sym vs);
-        trace = w .trace ∙ ap (λ (l : List Float). sets tr₀ k₀ l) (sym fs);
-        count = w .count ∙ ap (λ (l : List Float). k₀ + length l) (sym fs);
-      }
-
--- what filled tables give the functions that read them
-module _ (i : Instrument) (setup : Setup) (table : List Float) (lengths : List ℕ) (coefficients part scratch : List Float)
-    (l : Loaded i table lengths coefficients part scratch) (hs : setup ≡ setupOf i) where
-  strings-many : setup .strings ≡ i .«string_count»
-  unfolding setupOf
-  strings-many = ap (λ (x : Setup). x .strings) hs
-
-  keys-many : setup .keys ≡ i .«key_count»
-  unfolding setupOf
-  keys-many = ap (λ (x : Setup). x .keys) hs
-
-  pub loaded-strings : tableStrings lengths coefficients (setup .strings) ≡ stringsOf i
-  loaded-strings = rw strings-many (filled-strings i lengths coefficients (l .renderable .keys) (l .filledStrings))
-
-  pub loaded-model : modelAt setup table lengths coefficients ≡ modelOf i
-  loaded-model = rw hs (filled-model i lengths coefficients (l .renderable .keys) (l .filledStrings) table (l .filledKeys))
-
-  pub loaded-ready : (w v : List Float) → length w ≡ length part → length v ≡ length scratch → Ready setup lengths coefficients w v
-  loaded-ready w v hw hv = record {
-    fit = rw strings-many (filled-fit i lengths coefficients (l .renderable .keys) (l .filledStrings) (l .renderable .strings));
-    keys = rw keys-many (l .renderable .keys);
-    cells = rw loaded-strings (omega (arith, hw, l .renderable .cells));
-    scratch = rw strings-many (omega (arith, hv, l .renderable .room));
+module _ {i : Instrument} {lengths : List ℕ} {coefficients part scratch : List Float} (can : Renderable i part scratch) (strung : StringsFilled i lengths coefficients) where
+  pub tables-playable : (w : List Float) → length w ≡ length part → Playable i lengths coefficients (i .«string_count») w
+  tables-playable w h = record {
+    keys = can .keys;
+    few = can .strings;
+    cells = rw (filled-strings i lengths coefficients (can .keys) strung) (omega (arith, can .cells));
   }
 
-  pub loaded-playable : Playable i lengths coefficients (setup .strings) part
-  loaded-playable = record {
-    keys = l .renderable .keys;
-    few = rw strings-many (l .renderable .strings);
-    cells = rw loaded-strings (l .renderable .cells);
+  tables-ready : (w v : List Float) → length w ≡ length part → length v ≡ length scratch → Ready (setupOf i) lengths coefficients w v
+  unfolding setupOf
+  tables-ready w v hw hv = record {
+    fit = filled-fit i lengths coefficients (can .keys) strung (can .strings);
+    keys = can .keys;
+    cells = tables-playable w hw .cells;
+    scratch = omega (arith, can .room);
   }
 
--- a run from the start of its buffers, m samples done, is the render's promise
-pub went-rendered : (i : Instrument) (score : List TimedEvent) (t m : ℕ) {s s' : State} {o tr o' tr' : List Float} {d k : ℕ}
-    → Went (stateNext i score) (sampleAt i score) (pushedAt i score) t s o tr 0 0 s' o' tr' d k → d ≡ m → Rendered i score t m s o tr s' o' tr' d k
-went-rendered i score t m {d = d} w e =
-    let z : d - 0 ≡ m = omega arith in
-    record { state = rw z at (w .state); outs = rw z at (w .outs); traced = rw z at (w .trace); counted = e; forced = rw z at (w .count) ∙ zero-add _ }
+  -- of a stretch that follows a run of the score
+  module _ {score : List TimedEvent} {t m : ℕ} {r : Run} {cells cells' : List Float} {s : Stretch} (q : NextStretch i score t m r cells cells' s) where
+    pub stretch-ready : (v : List Float) → length cells' ≡ length part → length v ≡ length scratch → Ready (s .setup) lengths coefficients cells' v
+    stretch-ready v hw hv = rw (q .setup) (tables-ready cells' v hw hv)
+
+    pub stretch-in-range : InRange r t m → InRange (s .run) (s .t) (s .stop)
+    stretch-in-range g =
+        let count = ap (λ (x : State). x .piano .motion .«contact_samples») (q .acted)
+        ∙ apply-all-count i (stringsOf i) (eventsAt score (t + r .done)) (record { piano = r .piano; cells = cells }) in
+        rw (q .start) (record {
+          below = omega (arith, q .done, q .more);
+          end = omega (arith, g .end, q .most);
+          contact = omega (arith, count, g .contact, q .done);
+          pushes = omega (arith, g .pushes, q .done, q .pushed);
+        })
+
+    -- its samples are samples of the score
+    pub stretch-advanced : {table : List Float} → KeysFilled i table → {out trace : List Float} {b : Rendering}
+        → Advanced (stretchStep s table lengths coefficients) (s .t) (renderingOf (s .run) cells' out trace) b → b .done ≡ s .stop
+        → Advanced (sampleAt i score) t (renderingOf r cells out trace) b
+    unfolding stateAfter
+    stretch-advanced {table} keyed {out} {trace} {b} w stopped =
+        let D : ℕ → Bool = λ k. getD (s .down) k false in
+        let still = stepped (modelOf i) D in
+        let S : State = record { piano = r .piano; cells = cells } in
+        let E : State = record { piano = s .run .piano; cells = cells' } in
+        let u = t + r .done in
+        let n = b .done - r .done in
+        let filled : modelAt (s .setup) table lengths coefficients ≡ modelOf i = rw (q .setup) (filled-model i lengths coefficients (can .keys) strung table keyed) in
+        let went = rw (filled, q .start, q .done, q .pushed) at w in
+        let same : (k : ℕ) → k < b .done - r .done → sampleAt i score (u + k) (run i score u k S) ≡ still (u + k) (stateBy still u k E) =
+        λ k h. sample-same i score u S E D (q .acted) (q .down .each) k (λ x a c. q .none x a (omega (arith, c, h, stopped))) in
+        let more : b .done - r .done ≡ suc (b .done - r .done - 1) = omega (arith, q .more, stopped) in
+        let st : run i score u n S ≡ stateBy still u n E = rw more (ap (λ (x : Stepped). x .state) (same (n - 1) (omega (arith, q .more, stopped)))) in
+        let listed : (g : Stepped → List Float) → valuesOf (λ x y. sampleAt i score x y .state) (λ x y. g (sampleAt i score x y)) u n S
+        ≡ valuesOf (λ x y. still x y .state) (λ x y. g (still x y)) u n E =
+        λ g. values-each (λ x y. sampleAt i score x y .state) (λ x y. still x y .state) u S (λ x y. g (sampleAt i score x y)) (λ x y. g (still x y)) E n (λ k h. ap g (same k h)) in
+        record {
+          from = went .from;
+          state = went .state ∙ sym st;
+          outs = rw (listed (λ x. x .out ∷ [])) (went .outs);
+          traced = rw (listed (λ x. x .force)) (went .traced);
+          forced = rw (listed (λ x. x .force)) (went .forced);
+        }
+
+    pub stretch-done : {r' : Run} → InRange r t m → InRange r' (s .t) (s .stop) → InRange r' t m
+    stretch-done g h =
+        let k = rw (q .start) at h in
+        record { below = omega (arith, k .below, q .most); end = g .end; contact = k .contact; pushes = k .pushes }

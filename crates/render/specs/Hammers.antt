@@ -21,7 +21,7 @@ use Rattle.score.specs.declared.TimedEvent.{TimedEvent}
 use Rattle.score.specs.Events.{State, keyIndex, struckKey, heldTo, handDamped, pedalTo, isDown, applied, applyAll, clearedAll}
 use Rattle.score.specs.Score.{eventsAt}
 use Rattle.render.specs.Steps.{stateAfter}
-use Rattle.render.specs.Render.{stepped, played, silentPiano, silence, run, renderState}
+use Rattle.render.specs.Render.{stepped, sampleWith, silentPiano, silence, run, renderState}
 
 -- the hammer, if it flies, is on a key that is there
 abbrev pub OnKey : Instrument → HammerState → Type 0
@@ -73,16 +73,16 @@ module _ (i : Instrument) where
   all-on ds [] s o = o
   all-on ds (e ∷ es) s o = all-on ds es (applied i ds e s) (applied-on ds e s o)
 
-  played-on : (t : ℕ) (es : List Event) (s : State) → OnKey i (hammerIn s) → OnKey i (hammerIn (played i t es s .state))
-  unfolding played
-  played-on t es s o =
+  sample-on : (es : List Event) (t : ℕ) (s : State) → OnKey i (hammerIn s) → OnKey i (hammerIn (sampleWith i es t s .state))
+  unfolding sampleWith
+  sample-on es t s o =
       let acted = applyAll i (stringsOf i) es s in
       stepped-on (modelOf i) (isDown i (acted .piano)) t acted (all-on (stringsOf i) es s o)
 
   run-on : (score : List TimedEvent) (t n : ℕ) (s : State) → OnKey i (hammerIn s) → OnKey i (hammerIn (run i score t n s))
   unfolding stateAfter
   run-on score t zero s o = o
-  run-on score t (suc n) s o = played-on (t + n) (eventsAt score (t + n)) (run i score t n s) (run-on score t n s o)
+  run-on score t (suc n) s o = sample-on (eventsAt score (t + n)) (t + n) (run i score t n s) (run-on score t n s o)
 
   pub render-hammer : (score : List TimedEvent) (p : ℕ) → OnKey i (hammerIn (renderState i score p))
   unfolding silence silentPiano

@@ -4,25 +4,26 @@ use mathlib.Core.Path.{_≡_}
 use mathlib.Core.Bool.{Bool, false}
 use mathlib.Core.List.{List, [], _∷_}
 use Prim.Native.Nat.{ℕ, _+_, _-_, _≤_, _<_, _^_}
-use lib.ListN.{length, replicate}
+use lib.ListN.{length, getD, replicate}
 use lib.Seq.{sets}
 use lib.Ieee.{Float}
 use Rattle.instrument.specs.declared.Instrument.{Instrument}
 use Rattle.points.specs.declared.HammerState.the-variants.{Resting}
 use Rattle.strings.specs.Strings.{cellsOf}
 use Rattle.sample.specs.declared.Motion.{Motion}
-use Rattle.sample.specs.Sample.{Model, sampled}
-use Rattle.sample_constants.specs.Model.{stringsOf, modelOf, KeysFilled, StringsFilled}
+use Rattle.sample.specs.Sample.{Model, modelAt, sampled}
+use Rattle.sample_constants.specs.Model.{setupOf, stringsOf, modelOf}
 use Rattle.score.specs.declared.Piano.{Piano}
 use Rattle.score.specs.declared.Event.{Event}
 use Rattle.score.specs.declared.TimedEvent.{TimedEvent}
-use Rattle.score.specs.Events.{State, isDown, applyAll}
+use Rattle.score.specs.Events.{State, AllDown, isDown, applyAll}
 use Rattle.score.specs.Score.{eventsAt}
 use Rattle.render.specs.declared.Run.{Run}
+use Rattle.render.specs.declared.Stretch.{Stretch}
 use Rattle.render.specs.Steps.{stateAfter, valuesOf}
 
--- what a sample leaves, its output, and the force pushed, one or none
-pub record Played : Type 0 where
+-- what a sample leaves: the state after it, its output, and the force pushed, one or none
+pub record Stepped : Type 0 where
   pub state : State
   pub out : Float
   pub force : List Float
@@ -32,16 +33,40 @@ abbrev pub withMotion : Piano → List Float → Motion → Piano
 withMotion p R motion = record { held = p .held; «hand_damped» = p .«hand_damped»; «damper_r» = R; pedal = p .pedal; motion = motion }
 
 -- sample t after its events
-unfoldable pub stepped : Model → (ℕ → Bool) → ℕ → State → Played
+unfoldable pub stepped : Model → (ℕ → Bool) → ℕ → State → Stepped
 stepped m down t s =
     let step = sampled m down t (s .piano .«damper_r») (s .piano .motion) (s .cells) in
     record { state = record { piano = withMotion (s .piano) (step .«damper_r») (step .motion); cells = step .cells }; out = step .out; force = step .force }
 
 -- one sample of an instrument: the events that act on sample t, then the sample
-unfoldable pub played : Instrument → ℕ → List Event → State → Played
-played i t es s =
+unfoldable pub sampleWith : Instrument → List Event → ℕ → State → Stepped
+sampleWith i es t s =
     let acted = applyAll i (stringsOf i) es s in
     stepped (modelOf i) (isDown i (acted .piano)) t acted
+
+-- a score's sample t
+abbrev pub sampleAt : Instrument → List TimedEvent → ℕ → State → Stepped
+sampleAt i score t s = sampleWith i (eventsAt score t) t s
+
+-- n samples from position t on, each by the rule `step`: the state after them, their outputs, their forces
+abbrev pub stateBy : (ℕ → State → Stepped) → ℕ → ℕ → State → State
+stateBy step t n s = stateAfter (λ u x. step u x .state) t n s
+
+abbrev pub samplesBy : (ℕ → State → Stepped) → ℕ → ℕ → State → List Float
+samplesBy step t n s = valuesOf (λ u x. step u x .state) (λ u x. step u x .out ∷ []) t n s
+
+abbrev pub forcesBy : (ℕ → State → Stepped) → ℕ → ℕ → State → List Float
+forcesBy step t n s = valuesOf (λ u x. step u x .state) (λ u x. step u x .force) t n s
+
+-- n samples of a score from t on
+abbrev pub run : Instrument → List TimedEvent → ℕ → ℕ → State → State
+run i score t n s = stateBy (sampleAt i score) t n s
+
+abbrev pub samples : Instrument → List TimedEvent → ℕ → ℕ → State → List Float
+samples i score t n s = samplesBy (sampleAt i score) t n s
+
+abbrev pub forces : Instrument → List TimedEvent → ℕ → ℕ → State → List Float
+forces i score t n s = forcesBy (sampleAt i score) t n s
 
 -- "Silence: zero, false, none."
 unfoldable pub silentPiano : Piano
@@ -56,29 +81,6 @@ silentPiano = record {
 unfoldable pub silence : Instrument → State
 silence i = record { piano = silentPiano; cells = replicate (cellsOf (stringsOf i)) +0 }
 
--- a score's sample t: the state after it, its output, its force
-abbrev pub stateNext : Instrument → List TimedEvent → ℕ → State → State
-stateNext i score t s = played i t (eventsAt score t) s .state
-
-abbrev pub sampleAt : Instrument → List TimedEvent → ℕ → State → Float
-sampleAt i score t s = played i t (eventsAt score t) s .out
-
-abbrev pub samplesAt : Instrument → List TimedEvent → ℕ → State → List Float
-samplesAt i score t s = sampleAt i score t s ∷ []
-
-abbrev pub pushedAt : Instrument → List TimedEvent → ℕ → State → List Float
-pushedAt i score t s = played i t (eventsAt score t) s .force
-
--- n samples of a score from t on: the state after them, the samples, the forces
-abbrev pub run : Instrument → List TimedEvent → ℕ → ℕ → State → State
-run i score t n s = stateAfter (stateNext i score) t n s
-
-abbrev pub samples : Instrument → List TimedEvent → ℕ → ℕ → State → List Float
-samples i score t n s = valuesOf (stateNext i score) (samplesAt i score) t n s
-
-abbrev pub forces : Instrument → List TimedEvent → ℕ → ℕ → State → List Float
-forces i score t n s = valuesOf (stateNext i score) (pushedAt i score) t n s
-
 -- the render of a score from silence: its state at p, and all its samples and forces before p
 abbrev pub renderState : Instrument → List TimedEvent → ℕ → State
 renderState i score p = run i score 0 p (silence i)
@@ -89,24 +91,29 @@ renderSamples i score p = samples i score 0 p (silence i)
 abbrev pub renderForces : Instrument → List TimedEvent → ℕ → List Float
 renderForces i score p = forces i score 0 p (silence i)
 
--- A run in buffers: from s₀, with `done₀` samples stored in out and `pushed₀` forces in the trace, to s; its first sample is at position t.
-pub record Went (next : ℕ → State → State) (out : ℕ → State → Float) (force : ℕ → State → List Float) (t : ℕ) (s₀ : State) (o₀ tr₀ : List Float) (done₀ pushed₀ : ℕ)
-    (s : State) (o tr : List Float) (done pushed : ℕ) : Type 0 where
-  pub from : done₀ ≤ done
-  pub state : s ≡ stateAfter next t (done - done₀) s₀
-  pub outs : o ≡ sets o₀ done₀ (valuesOf next (λ u x. out u x ∷ []) t (done - done₀) s₀)
-  pub trace : tr ≡ sets tr₀ pushed₀ (valuesOf next force t (done - done₀) s₀)
-  pub count : pushed ≡ pushed₀ + length (valuesOf next force t (done - done₀) s₀)
+-- A render in progress: its state, the output and the trace lent to it, and how many samples and forces it has stored there.
+pub record Rendering : Type 0 where
+  pub state : State
+  pub out : List Float
+  pub trace : List Float
+  pub done : ℕ
+  pub pushed : ℕ
 
--- the samples of a stretch with no events, each after the other
-abbrev pub stillNext : Model → (ℕ → Bool) → ℕ → State → State
-stillNext m down t s = stepped m down t s .state
+-- that of the code's run, with the arrays lent to it
+abbrev pub renderingOf : Run → List Float → List Float → List Float → Rendering
+renderingOf r cells out trace = record { state = record { piano = r .piano; cells = cells }; out = out; trace = trace; done = r .done; pushed = r .pushed }
 
-abbrev pub stillOut : Model → (ℕ → Bool) → ℕ → State → Float
-stillOut m down t s = stepped m down t s .out
+-- before its first sample
+abbrev pub unstarted : Piano → List Float → List Float → List Float → Rendering
+unstarted piano cells out trace = record { state = record { piano = piano; cells = cells }; out = out; trace = trace; done = 0; pushed = 0 }
 
-abbrev pub stillForce : Model → (ℕ → Bool) → ℕ → State → List Float
-stillForce m down t s = stepped m down t s .force
+-- a went on to b, each sample by the rule `step`; sample 0 of the render is at position t
+pub record Advanced (step : ℕ → State → Stepped) (t : ℕ) (a b : Rendering) : Type 0 where
+  pub from : a .done ≤ b .done
+  pub state : b .state ≡ stateBy step (t + a .done) (b .done - a .done) (a .state)
+  pub outs : b .out ≡ sets (a .out) (a .done) (samplesBy step (t + a .done) (b .done - a .done) (a .state))
+  pub traced : b .trace ≡ sets (a .trace) (a .pushed) (forcesBy step (t + a .done) (b .done - a .done) (a .state))
+  pub forced : b .pushed ≡ a .pushed + length (forcesBy step (t + a .done) (b .done - a .done) (a .state))
 
 -- a run whose counts are within its position, with samples left up to `stop`
 pub record InRange (r : Run) (t stop : ℕ) : Type 0 where
@@ -122,16 +129,26 @@ pub record Renderable (i : Instrument) (part scratch : List Float) : Type 0 wher
   pub cells : cellsOf (stringsOf i) ≤ length part
   pub room : i .«string_count» ≤ length scratch
 
--- the same with its tables filled
-pub record Loaded (i : Instrument) (table : List Float) (lengths : List ℕ) (coefficients part scratch : List Float) : Type 0 where
-  pub renderable : Renderable i part scratch
-  pub filledKeys : KeysFilled i table
-  pub filledStrings : StringsFilled i lengths coefficients
+-- A sample of a stretch, from the tables: no event acts on it, and its dampers stay where they are to be.
+abbrev pub stretchStep : Stretch → List Float → List ℕ → List Float → ℕ → State → Stepped
+stretchStep s table lengths coefficients = stepped (modelAt (s .setup) table lengths coefficients) (λ k. getD (s .down) k false)
 
--- the promise of `render`: m samples of a score from position t on, with as many outputs and forces stored as the lent buffers have cells for
-pub record Rendered (i : Instrument) (score : List TimedEvent) (t m : ℕ) (s : State) (out trace : List Float) (s' : State) (out' trace' : List Float) (done pushed : ℕ) : Type 0 where
-  pub state : s' ≡ run i score t m s
-  pub outs : out' ≡ sets out 0 (samples i score t m s)
-  pub traced : trace' ≡ sets trace 0 (forces i score t m s)
-  pub counted : done ≡ m
-  pub forced : pushed ≡ length (forces i score t m s)
+-- The stretch that follows a run of a score: the events at the run's next sample act on the cells too, and no event lies behind that sample.
+pub record NextStretch (i : Instrument) (score : List TimedEvent) (t m : ℕ) (r : Run) (cells cells' : List Float) (s : Stretch) : Type 0 where
+  pub setup : s .setup ≡ setupOf i
+  pub acted : record { piano = s .run .piano; cells = cells' } ≡ applyAll i (stringsOf i) (eventsAt score (t + r .done)) (record { piano = r .piano; cells = cells })
+  pub down : AllDown i (s .run .piano) (s .down)
+  pub start : s .t ≡ t
+  pub done : s .run .done ≡ r .done
+  pub pushed : s .run .pushed ≡ r .pushed
+  pub more : r .done < s .stop
+  pub most : s .stop ≤ m
+  pub none : (u : ℕ) → t + r .done + 1 ≤ u → u < t + s .stop → eventsAt score u ≡ []
+
+-- The promise of `render`: m samples of a score from position t on. The output and the trace have as many stored as they have cells for.
+pub record Rendered (i : Instrument) (score : List TimedEvent) (t m : ℕ) (a b : Rendering) : Type 0 where
+  pub state : b .state ≡ run i score t m (a .state)
+  pub outs : b .out ≡ sets (a .out) 0 (samples i score t m (a .state))
+  pub traced : b .trace ≡ sets (a .trace) 0 (forces i score t m (a .state))
+  pub counted : b .done ≡ m
+  pub forced : b .pushed ≡ length (forces i score t m (a .state))

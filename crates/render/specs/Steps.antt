@@ -59,15 +59,12 @@ module _ {S : Type 0} where
     run-same (suc n) h =
         ap (λ (x : S). next (t + n) x) (run-same n (λ u x a b. h u x a (omega arith))) ∙ h (t + n) (stateAfter next' t n s) (omega arith) (omega arith)
 
-    pub values-same : (g g' : ℕ → S → List Float) (n : ℕ) → ((u : ℕ) (x : S) → t ≤ u → u < t + n → (next u x ≡ next' u x) × (g u x ≡ g' u x))
-        → valuesOf next g t n s ≡ valuesOf next' g' t n s
+    -- what is listed of each sample alike is the same list, whatever the states are
+    pub values-each : (g g' : ℕ → S → List Float) (s' : S) (n : ℕ) → ((k : ℕ) → k < n → g (t + k) (stateAfter next t k s) ≡ g' (t + k) (stateAfter next' t k s'))
+        → valuesOf next g t n s ≡ valuesOf next' g' t n s'
     unfolding valuesOf
-    values-same g g' zero h = refl
-    values-same g g' (suc n) h =
-        let st = run-same n (λ u x a b. h u x a (omega arith) .0) in
-        ap (λ (l : List Float). l ++ g (t + n) (stateAfter next t n s)) (values-same g g' n (λ u x a b. h u x a (omega arith)))
-        ∙ ap (λ (x : S). valuesOf next' g' t n s ++ g (t + n) x) st
-        ∙ ap (λ (l : List Float). valuesOf next' g' t n s ++ l) (h (t + n) (stateAfter next' t n s) (omega arith) (omega arith) .1)
+    values-each g g' s' zero h = refl
+    values-each g g' s' (suc n) h = rw (values-each g g' s' n (λ k q. h k (omega arith)), h n (omega arith))
 
 -- stores of a list are stores of its front, then of its rest
 pub sets-append : (l : List Float) (i : ℕ) (vs ws : List Float) → sets l i (vs ++ ws) ≡ sets (sets l i vs) (i + length vs) ws
@@ -75,8 +72,3 @@ sets-append l i [] ws = ap (λ (k : ℕ). sets l k ws) (sym (add-zero i))
 sets-append l i (v ∷ vs) ws =
     let e : suc i + length vs ≡ i + suc (length vs) = omega arith in
     sets-append (lib.ListN.set l i v) (suc i) vs ws ∙ ap (λ (k : ℕ). sets (sets (lib.ListN.set l i v) (suc i) vs) k ws) e
-
--- a list that is not there takes no stores
-pub sets-none : (i : ℕ) (vs : List Float) → sets [] i vs ≡ []
-sets-none i [] = refl
-sets-none i (v ∷ vs) = sets-none (suc i) vs

@@ -6,22 +6,31 @@ use sample::Setup;
 use score::Piano;
 use score::Score;
 ghost use mathlib.Core.Path.{_≡_};
-ghost use mathlib.Core.Bool.{false};
-ghost use mathlib.Core.List.{[]};
-ghost use Prim.Native.Nat.{ℕ, _+_, _-_, _≤_, _<_, _^_};
-ghost use lib.ListN.{length, getD, set, replicate};
+ghost use Prim.Native.Nat.{ℕ, _+_, _≤_, _<_, _^_};
+ghost use lib.ListN.{length, set, replicate};
 ghost use Rattle.float.specs.Float.{zero};
 ghost use lib.Seq.{sets};
-ghost use Rattle.sample.specs.Sample.{Ready, modelAt, forcesOf};
-ghost use Rattle.score.specs.Events.{State};
+ghost use Rattle.sample.specs.Sample.{Ready, forcesOf};
+ghost use Rattle.sample_constants.specs.Model.{StringsFilled};
+ghost use Rattle.score.specs.Events.{Playable};
 ghost use Rattle.score.specs.Score.{eventsOf};
-ghost use Rattle.render.specs.Render.{Went, InRange, Loaded, Renderable, Rendered, silentPiano, stillNext, stillOut, stillForce, stateNext, sampleAt, pushedAt};
+ghost use Rattle.render.specs.Render.{Advanced, InRange, NextStretch, Renderable, Rendered, renderingOf, unstarted, stretchStep, silentPiano};
 
 // A run in progress: the piano, how many samples are done, and how many forces were pushed.
 pub struct Run {
     pub piano: Piano,
     pub done: u64,
     pub pushed: usize,
+}
+
+// Samples with no event behind the first: the numbers they are computed with, which dampers are to be down, the run that
+// they go on from, and how many samples are done where they stop. Sample 0 of the run is at position t.
+pub struct Stretch {
+    pub setup: Setup,
+    pub down: [bool; 16],
+    pub run: Run,
+    pub t: u64,
+    pub stop: u64,
 }
 
 // A store where there is a cell for it: a run without output has none.
@@ -46,30 +55,27 @@ fn push(trace: &mut [f64], k: usize, pushed: bool, force: f64) -> usize
     }
 }
 
-// Samples with no events, up to `stop` done: the one loop over samples, which counts them up. The first is at t + run.done.
-fn play_on(
+// The samples of a stretch: the one loop over samples, which counts them up.
+fn play_stretch(
     part: &mut [f64],
     scratch: &mut [f64],
     out: &mut [f64],
     trace: &mut [f64],
-    down: &[bool; 16],
     table: &[f64; 64],
     lengths: &[usize; 160],
     coefficients: &[f64; 128],
-    setup: Setup,
-    run: Run,
-    t: u64,
-    stop: u64,
+    stretch: Stretch,
 ) -> Run
-    requires { ⌜ Ready setup (now lengths) (now coefficients) (now part) (now scratch) ⌝ }
-    requires { ⌜ InRange run t stop ⌝ }
-    ensures { λ r. ⌜ Went (stillNext (modelAt setup (now (table .entry)) (now (lengths .entry)) (now (coefficients .entry))) (λ k. getD (now (down .entry)) k false))
-        (stillOut (modelAt setup (now (table .entry)) (now (lengths .entry)) (now (coefficients .entry))) (λ k. getD (now (down .entry)) k false))
-        (stillForce (modelAt setup (now (table .entry)) (now (lengths .entry)) (now (coefficients .entry))) (λ k. getD (now (down .entry)) k false))
-        (t + run .done) (record { piano = run .piano; cells = now (part .entry) }) (now (out .entry)) (now (trace .entry)) (run .done) (run .pushed)
-        (record { piano = r .piano; cells = now (part .exit) }) (now (out .exit)) (now (trace .exit)) (r .done) (r .pushed)
-        × (r .done ≡ stop) × InRange r t stop ⌝ }
+    requires { ⌜ Ready (stretch .setup) (now lengths) (now coefficients) (now part) (now scratch) ⌝ }
+    requires { ⌜ InRange (stretch .run) (stretch .t) (stretch .stop) ⌝ }
+    ensures { λ r. ⌜ Advanced (stretchStep stretch (now (table .entry)) (now (lengths .entry)) (now (coefficients .entry))) (stretch .t)
+        (renderingOf (stretch .run) (now (part .entry)) (now (out .entry)) (now (trace .entry)))
+        (renderingOf r (now (part .exit)) (now (out .exit)) (now (trace .exit)))
+        × (r .done ≡ stretch .stop) × InRange r (stretch .t) (stretch .stop) ⌝ }
 {
+    let setup = stretch.setup;
+    let down = stretch.down;
+    let run = stretch.run;
     let piano = run.piano;
     let held = piano.held;
     let hand_damped = piano.hand_damped;
@@ -77,6 +83,8 @@ fn play_on(
     let mut motion = piano.motion;
     let mut done = run.done;
     let mut pushed = run.pushed;
+    let t = stretch.t;
+    let stop = stretch.stop;
     let mut indices = strings::first_indices(lengths, coefficients, setup.strings, t + done);
     while done < stop {
         let at = t + done;
@@ -84,7 +92,7 @@ fn play_on(
             part,
             scratch,
             &mut damper_r,
-            down,
+            &down,
             table,
             lengths,
             coefficients,
@@ -125,13 +133,9 @@ fn stop_at(next: u64, t: u64, done: u64, m: u64) -> u64
     }
 }
 
-// The events at t + run.done, and the samples from there to the next event or to m.
-fn advance(
+// The stretch that follows a run: the events at t + run.done act, and it goes on to the next event or to m.
+fn next_stretch(
     part: &mut [f64],
-    scratch: &mut [f64],
-    out: &mut [f64],
-    trace: &mut [f64],
-    table: &[f64; 64],
     lengths: &[usize; 160],
     coefficients: &[f64; 128],
     instrument: Instrument,
@@ -139,51 +143,33 @@ fn advance(
     run: Run,
     t: u64,
     m: u64,
-) -> Run
-    requires { ⌜ Loaded instrument (now table) (now lengths) (now coefficients) (now part) (now scratch) ⌝ }
+) -> Stretch
+    requires { ⌜ Playable instrument (now lengths) (now coefficients) (instrument .«string_count») (now part) ⌝ }
+    requires { ⌜ StringsFilled instrument (now lengths) (now coefficients) ⌝ }
     requires { ⌜ score .count ≤ 64 ⌝ }
     requires { ⌜ run .done < m ⌝ }
-    requires { ⌜ InRange run t m ⌝ }
-    ensures { λ r. ⌜ Went (stateNext instrument (eventsOf score)) (sampleAt instrument (eventsOf score)) (pushedAt instrument (eventsOf score))
-        (t + run .done) (record { piano = run .piano; cells = now (part .entry) }) (now (out .entry)) (now (trace .entry)) (run .done) (run .pushed)
-        (record { piano = r .piano; cells = now (part .exit) }) (now (out .exit)) (now (trace .exit)) (r .done) (r .pushed)
-        × (run .done < r .done) × InRange r t m ⌝ }
+    requires { ⌜ t + m < 2 ^ 64 ⌝ }
+    ensures { λ r. ⌜ NextStretch instrument (eventsOf score) t m run (now (part .entry)) (now (part .exit)) r ⌝ }
 {
+    let at = t + run.done;
+    let n = instrument.string_count;
     let piano = run.piano;
     let setup = sample_constants::setup_of(instrument);
-    let at = t + run.done;
-    let acted = score::apply_events(
-        part,
-        lengths,
-        coefficients,
-        setup.strings,
-        instrument,
-        score,
-        piano,
-        at,
-    );
+    let acted = score::apply_events(part, lengths, coefficients, n, instrument, score, piano, at);
     let down = score::dampers_down(instrument, acted);
     let next = score::next_event(score, at + 1);
     let stop = stop_at(next, t, run.done, m);
-    let from = Run {
-        piano: acted,
-        done: run.done,
-        pushed: run.pushed,
-    };
-    play_on(
-        part,
-        scratch,
-        out,
-        trace,
-        &down,
-        table,
-        lengths,
-        coefficients,
+    Stretch {
         setup,
-        from,
+        down,
+        run: Run {
+            piano: acted,
+            done: run.done,
+            pushed: run.pushed,
+        },
         t,
         stop,
-    )
+    }
 }
 
 // m samples of a score from position t on. Output and trace get theirs as far as they have cells: play lends both, go none.
@@ -202,8 +188,8 @@ pub fn render(
     requires { ⌜ score .count ≤ 64 ⌝ }
     requires { ⌜ piano .motion .«contact_samples» ≤ t ⌝ }
     requires { ⌜ t + m < 2 ^ 64 ⌝ }
-    ensures { λ r. ⌜ Rendered instrument (eventsOf score) t m (record { piano = piano; cells = now (part .entry) }) (now (out .entry)) (now (trace .entry))
-        (record { piano = r .piano; cells = now (part .exit) }) (now (out .exit)) (now (trace .exit)) (r .done) (r .pushed) ⌝ }
+    ensures { λ r. ⌜ Rendered instrument (eventsOf score) t m (unstarted piano (now (part .entry)) (now (out .entry)) (now (trace .entry)))
+        (renderingOf r (now (part .exit)) (now (out .exit)) (now (trace .exit))) ⌝ }
 {
     let table = sample_constants::key_table(instrument);
     let tables = sample_constants::string_tables(instrument);
@@ -215,7 +201,8 @@ pub fn render(
         pushed: 0,
     };
     while run.done < m {
-        run = advance(
+        let stretch = next_stretch(part, &lengths, &coefficients, instrument, score, run, t, m);
+        run = play_stretch(
             part,
             scratch,
             out,
@@ -223,11 +210,7 @@ pub fn render(
             &table,
             &lengths,
             &coefficients,
-            instrument,
-            score,
-            run,
-            t,
-            m,
+            stretch,
         );
     }
     run

@@ -19,7 +19,7 @@ use Rattle.sample.specs.declared.Motion.{Motion}
 use Rattle.sample.specs.Sample.{Model, Step, Bridged, moved, pushedBy, forcesOf, sampled}
 
 module _ (m : Model) (down : ℕ → Bool) (t : ℕ) (R : List Float) (motion : Motion) (w rest : List Float) (ok : AllSound (m .strings)) (h : cellsOf (m .strings) ≤ length w)
-    (R' w1 w2 w3 : List Float) (f : ForceSum) (after : Motion) (out : Float) (pushed : Bool)
+    {R' w1 w2 w3 : List Float} {f : ForceSum} {after : Motion} {out : Float} {pushed : Bool}
     (hR : R' ≡ dampers (m .keys) down R)
     (h1 : w1 ≡ filteredAll (m .strings) t w)
     (h2 : w2 ≡ turnedAll (m .constants) (motion .hammer) R' (m .strings) t w1)
@@ -34,7 +34,9 @@ module _ (m : Model) (down : ℕ → Bool) (t : ℕ) (R : List Float) (motion : 
   v = vIns (m .strings) t w
 
   abbrev nuts : List Float
-  nuts = nutsAll (m .strings) t (readsAll (m .strings) t w) (pointsAll (m .constants) (motion .hammer) (dampers (m .keys) down R) (m .strings) t (readsAll (m .strings) t w) (filteredAll (m .strings) t w))
+  nuts =
+      let reads = readsAll (m .strings) t w in
+      nutsAll (m .strings) t reads (pointsAll (m .constants) (motion .hammer) (dampers (m .keys) down R) (m .strings) t reads (filteredAll (m .strings) t w))
 
   abbrev speeds : List Float
   speeds = bridgeSpeeds (m .constants .yz) (m .keys) (m .strings) (vIns (m .strings) t w)

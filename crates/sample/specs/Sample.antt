@@ -18,6 +18,7 @@ use Rattle.keys.specs.declared.KeyConstants.{KeyConstants}
 use Rattle.keys.specs.Keys.{keysOf, dampers, bridgeSpeeds}
 use Rattle.sample.specs.declared.Motion.{Motion}
 use Rattle.sample.specs.declared.Setup.{Setup}
+use Rattle.sample.specs.declared.Sampled.{Sampled}
 
 -- what a sample is computed with: the instrument's constants, its keys and its strings
 pub record Model : Type 0 where
@@ -75,6 +76,10 @@ pub record Step : Type 0 where
   pub cells : List Float
   pub out : Float
   pub force : List Float
+
+-- that of the code's answer, with the dampers and the cells lent to it
+abbrev pub stepOf : Sampled → List Float → List Float → Step
+stepOf r R w = record { «damper_r» = R; motion = r .motion; cells = w; out = r .out; force = forcesOf (r .pushed) (r .force) }
 
 -- Sample t after its events, of the dampers' resistances R, the hammer and the cells; `down` says which dampers are to be down.
 unfoldable pub sampled : Model → (ℕ → Bool) → ℕ → List Float → Motion → List Float → Step

@@ -8,7 +8,7 @@ ghost use mathlib.Core.Bool.{false};
 ghost use Prim.Native.Nat.{_+_, _<_, _^_};
 ghost use lib.ListN.{getD};
 ghost use Rattle.strings.specs.Strings.{Indexed};
-ghost use Rattle.sample.specs.Sample.{Step, Ready, Bridged, modelAt, sampled, hammerAfter, moved, pushedBy, forcesOf};
+ghost use Rattle.sample.specs.Sample.{Ready, Bridged, modelAt, sampled, stepOf, hammerAfter, moved, pushedBy};
 
 // The hammer, if one flies, and what is counted of its contacts.
 pub struct Motion {
@@ -153,8 +153,9 @@ pub fn sample(
     requires { ⌜ Ready setup (now lengths) (now coefficients) (now part) (now scratch) ⌝ }
     requires { ⌜ Indexed (now lengths) (now coefficients) (now indices) (setup .strings) t ⌝ }
     requires { ⌜ motion .«contact_samples» + 1 < 2 ^ 64 ⌝ }
-    ensures { λ r. ⌜ record { «damper_r» = now («damper_r» .exit); motion = r .motion; cells = now (part .exit); out = r .out; force = forcesOf (r .pushed) (r .force) }
-        ≡ sampled (modelAt setup (now (table .entry)) (now (lengths .entry)) (now (coefficients .entry))) (λ k. getD (now (down .entry)) k false) t (now («damper_r» .entry)) motion (now (part .entry)) ⌝ }
+    ensures { λ r. ⌜ stepOf r (now («damper_r» .exit)) (now (part .exit))
+        ≡ sampled (modelAt setup (now (table .entry)) (now (lengths .entry)) (now (coefficients .entry))) (λ k. getD (now (down .entry)) k false)
+        t (now («damper_r» .entry)) motion (now (part .entry)) ⌝ }
 {
     let c = setup.constants;
     let h = motion.hammer;

@@ -21,7 +21,7 @@ use Rattle.score.specs.declared.TimedEvent.{TimedEvent}
 use Rattle.render.specs.declared.Run.{Run}
 use Rattle.score.specs.Events.{State}
 use Rattle.score.specs.Score.{noEvent}
-use Rattle.render.specs.Render.{Renderable, Rendered, silentPiano, run, samples, forces}
+use Rattle.render.specs.Render.{Renderable, Rendered, renderingOf, unstarted, silentPiano, run, samples, forces}
 use Rattle.render.specs.Laws.{samples-length, forces-few}
 use Rattle.render.specs.Work.{valid-renderable}
 use Rattle.positions.specs.Positions.{end, count, isIn, above, others}
@@ -112,7 +112,7 @@ module _ (i : Instrument) (s : Session) (work : List Float) (scratch : ℕ) (out
           (omega (arith, q .0))
 
       pub play-accepted : (r : Run) (part′ out′ trace′ : List Float)
-          → Rendered i (scoreOf s) (s .t) (length out) (record { piano = s .piano; cells = take w work }) out trace (record { piano = r .piano; cells = part′ }) out′ trace′ (r .done) (r .pushed)
+          → Rendered i (scoreOf s) (s .t) (length out) (unstarted (s .piano) (take w work) out trace) (renderingOf r part′ out′ trace′)
           → PlayMeets i s work scratch out trace
           (record { answer = Played (r .pushed); session = record { t = s .t + length out; count = s .count; events = s .events; cues = s .cues; piano = r .piano } })
           (part′ ++ drop w work) out′ trace′
@@ -222,7 +222,7 @@ module _ (i : Instrument) (s : Session) (work : List Float) (scratch p n : ℕ)
           (length-take-le w work₁ (omega (arith, go-fine .room)) ∙ ew) (omega (arith, q .0))
 
       pub go-accepted : (d : Run) (part′ out out′ trace trace′ : List Float)
-          → Rendered i (scoreOf s) start (p - start) (record { piano = piano; cells = take w work₁ }) out trace (record { piano = d .piano; cells = part′ }) out′ trace′ (d .done) (d .pushed)
+          → Rendered i (scoreOf s) start (p - start) (unstarted piano (take w work₁) out trace) (renderingOf d part′ out′ trace′)
           → GoMeets i s work scratch p
           (record { answer = Went (d .done); session = record { t = p; count = s .count; events = s .events; cues = s .cues; piano = d .piano } })
           (part′ ++ drop w work₁)

@@ -1,4 +1,4 @@
--- `render::push` meets its contract. Assumes nothing.
+-- `render::push` meets its contract: with a hammer it is `put`, without one it stores and counts nothing. Assumes nothing.
 use mathlib.Core.Path.{refl}
 use borrow.Author.Needs.{needs}
 use Rattle.render.proofs.push.Statement.{statement}

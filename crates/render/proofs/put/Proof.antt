@@ -1,4 +1,4 @@
--- `render::put` meets its contract. Assumes nothing.
+-- `render::put` meets its contract: a store past the end is none, as in `set`. Assumes nothing.
 use mathlib.Core.Path.{sym}
 use lib.Seq.{set-out}
 use borrow.Author.Needs.{needs}

@@ -1,4 +1,4 @@
--- `render::silent_piano` meets its contract. Assumes nothing.
+-- `render::silent_piano` meets its contract: the record is `silentPiano` as it stands. Assumes nothing.
 use mathlib.Core.Path.{refl}
 use Rattle.render.specs.Render.{silentPiano}
 use Rattle.render.proofs.silent_piano.Statement.{statement}

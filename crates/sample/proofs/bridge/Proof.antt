@@ -1,5 +1,4 @@
--- `sample::bridge` meets its contract: sums, total, speeds, and the strings' ends. Assumes nothing.
-use Rattle.string.specs.Table.{tableStrings}
+-- `sample::bridge` meets its contract: the calls' equations, one put into the next, are `bridgeSpeeds` and the strings' ends. Assumes nothing.
 use Rattle.keys.specs.Keys.{bridgeSpeeds}
 use borrow.Author.Needs.{needs}
 use Rattle.sample.proofs.bridge.Statement.{statement}
@@ -26,15 +25,17 @@ same-length c = search needs
 returns : tie.Need-returns
 unfolding bridgeSpeeds
 returns c =
-    let at = c .before .before .before .before .before .before .before .before .before .before .before .before .before .before .args in
-    let ds = tableStrings (at .lengths .now) (at .coefficients .now) (at .setup .strings) in
-    let sums = c .before .before .before .before .before .before .before .before .before .sum-keys .ensures in
-    let total = c .before .before .before .before .before .before .before .weighted-total .ensures in
-    let v-b = c .before .before .before .before .before .bridge-speeds .ensures in
-    let ends = c .before .before .bridge-strings .ensures in
+    let ended = c .before .before in
+    let sped = ended .before .before .before in
+    let totalled = sped .before .before in
+    let summed = totalled .before .before in
+    let speeds = sped .bridge-speeds .ensures in
+    let total = totalled .weighted-total .ensures in
+    let sums = summed .sum-keys .ensures in
+    let ends = ended .bridge-strings .ensures in
     record {
-      cells = rw (v-b, total, sums) at (ends .0);
-      out = rw (v-b, total, sums) at (ends .1);
+      cells = rw (speeds, total, sums) at (ends .0);
+      out = rw (speeds, total, sums) at (ends .1);
     }
 
 pub bridge-spec : {M : Type 1} → statement M

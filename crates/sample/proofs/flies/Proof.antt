@@ -1,4 +1,4 @@
--- `sample::flies` meets its contract. Assumes nothing.
+-- `sample::flies` meets its contract: each arm is a case of `pushedBy`. Assumes nothing.
 use Rattle.sample.specs.Sample.{pushedBy}
 use borrow.Author.Needs.{needs}
 use Rattle.sample.proofs.flies.Statement.{statement}

@@ -1,4 +1,4 @@
--- `sample::hammer_after` meets its contract. Assumes nothing.
+-- `sample::hammer_after` meets its contract: its tests are those of `hammerAfter`. Assumes nothing.
 use Rattle.sample.proofs.hammer_after.Statement.{statement}
 use Rattle.sample.proofs.hammer_after.Tie as tie
 

@@ -1,4 +1,4 @@
--- `sample::move_hammer` meets its contract. Assumes nothing.
+-- `sample::move_hammer` meets its contract: each path computes a case of `moved`, by the hammer and by whether a string was in contact. Assumes nothing.
 use Rattle.sample.specs.Sample.{moved}
 use borrow.Author.Needs.{needs}
 use Rattle.sample.proofs.move_hammer.Statement.{statement}
@@ -25,11 +25,16 @@ returns c = rw (c .enum-told .given .1)
 
 returns-2 : tie.Need-returns-2
 unfolding moved
-returns-2 c = rw (c .before .before .before .before .before .before .before .before .before .h .given .1, c .before .before .before .hammer-after .ensures, c .before .before .if1 .taken, c .max .ensures)
+returns-2 c =
+    let test = c .before .before in
+    let after = test .before in
+    rw (after .before .before .before .before .before .before .h .given .1, after .hammer-after .ensures, test .if1 .taken, c .max .ensures)
 
 returns-3 : tie.Need-returns-3
 unfolding moved
-returns-3 c = rw (c .before .before .before .before .before .before .before .h .given .1, c .before .hammer-after .ensures, c .if1 .left)
+returns-3 c =
+    let after = c .before in
+    rw (after .before .before .before .before .before .before .h .given .1, after .hammer-after .ensures, c .if1 .left)
 
 pub move-hammer-spec : {M : Type 1} → statement M
 move-hammer-spec =

@@ -1,9 +1,12 @@
--- `sample::sample` meets its contract: its passes are the sample in document 01's order. Assumes nothing.
+-- `sample::sample` meets its contract: each call gives the equation of its pass, and `sample-is` puts them together in document 01's order. The cells that are lent
+-- stay as many through the calls, so each finds them ready. Assumes nothing.
+use mathlib.Core.Path.{_∙_}
 use mathlib.Core.Bool.{false}
 use native.Mathlib.Omega.{arith}
 use lib.ListN.{getD, drop}
 use Rattle.strings.specs.Laws.{fit-sound}
 use Rattle.sample.specs.Sample.{modelAt}
+use Rattle.sample.specs.Laws.{ready-kept}
 use Rattle.sample.proofs.Fused.{sample-is}
 use borrow.Author.Needs.{needs}
 use Rattle.sample.proofs.sample.Statement.{statement}
@@ -20,27 +23,21 @@ filter-strings-requires c κs =
 
 strike-strings-requires : tie.Need-strike-strings-requires
 strike-strings-requires c κs =
-    let start = c .before .before .before .before .before .before .before .before .before .before .before .before .before .before in
+    let filtered = c .before .before .before .before .before .before in
+    let start = filtered .before .before .before .before .before .before .before .before in
     let ready = start .pre .0 in
-    (ready .fit, (start .pre .1 .0, omega (arith, c .before .before .before .before .before .before .filter-strings .kept .0, ready .cells)))
+    (ready .fit, (start .pre .1 .0, omega (arith, filtered .filter-strings .kept .0, ready .cells)))
 
 move-hammer-requires : tie.Need-move-hammer-requires
 move-hammer-requires c κs = search needs
 
 bridge-requires : tie.Need-bridge-requires
 bridge-requires c κs =
-    let start = c .before .before .before .before .before .before .before .before .before .before .before .before .before .before .before .before .before .before .before .before in
-    let ready = start .pre .0 in
-    let struck = c .before .before .before .before .before .strike-strings .kept .0 in
-    let filtered = c .before .before .before .before .before .before .before .before .before .before .before .before .filter-strings .kept in (
-      record {
-        fit = ready .fit;
-        keys = ready .keys;
-        cells = omega (arith, struck, filtered .0, ready .cells);
-        scratch = omega (arith, filtered .1 .0, ready .scratch);
-      },
-      start .pre .1 .0,
-    )
+    let struck = c .before .before .before .before .before in
+    let filtered = struck .before .before .before .before .before .before .before in
+    let start = filtered .before .before .before .before .before .before .before .before in
+    let kept = filtered .filter-strings .kept in
+    (ready-kept (start .pre .0) (struck .strike-strings .kept .0 ∙ kept .0) (kept .1 .0), start .pre .1 .0)
 
 flies-requires : tie.Need-flies-requires
 flies-requires c κs = search needs
@@ -53,18 +50,19 @@ same-length-2 c = search needs
 
 returns : tie.Need-returns
 returns c =
-    let start = c .before .before .before .before .before .before .before .before .before .before .before .before .before .before .before .before .before .before .before .before .before .before .before .before in
+    let bridged = c .before .before .before in
+    let moved = bridged .before .before .before in
+    let struck = moved .before .before .before in
+    let filtered = struck .before .before .before .before .before .before .before in
+    let damped = filtered .before .before .before in
+    let start = damped .before .before .before .before .before in
     let at = start .args in
     let ready = start .pre .0 in
-    let dampers = c .before .before .before .before .before .before .before .before .before .before .before .before .before .before .before .before .before .before .before .move-dampers in
-    let filter = c .before .before .before .before .before .before .before .before .before .before .before .before .before .before .before .before .filter-strings in
-    let strike = c .before .before .before .before .before .before .before .before .before .strike-strings in
-    let hammer = c .before .before .before .before .before .before .move-hammer in
-    let bridge = c .before .before .before .bridge in
-    sample-is (modelAt (at .setup) (at .table .now) (at .lengths .now) (at .coefficients .now)) (λ k. getD (at .down .now) k false) (at .t) (at .damper-r .now) (at .motion) (at .part .now)
-    (drop (at .setup .strings) (at .scratch .now)) (fit-sound (ready .fit)) (ready .cells) (dampers .last .1 .1 .0) (filter .last .0) (strike .last .0) (bridge .last .0)
-    (strike .result) (hammer .result) (bridge .result) (c .flies .result)
-    (dampers .ensures) (filter .ensures .0) (strike .ensures .0) (strike .ensures .1) (hammer .ensures) (rw (filter .ensures .1) at (bridge .ensures)) (c .flies .ensures)
+    let model = modelAt (at .setup) (at .table .now) (at .lengths .now) (at .coefficients .now) in
+    sample-is model (λ k. getD (at .down .now) k false) (at .t) (at .damper-r .now) (at .motion) (at .part .now)
+    (drop (at .setup .strings) (at .scratch .now)) (fit-sound (ready .fit)) (ready .cells)
+    (damped .move-dampers .ensures) (filtered .filter-strings .ensures .0) (struck .strike-strings .ensures .0) (struck .strike-strings .ensures .1)
+    (moved .move-hammer .ensures) (rw (filtered .filter-strings .ensures .1) at (bridged .bridge .ensures)) (c .flies .ensures)
 
 pub sample-spec : {M : Type 1} → statement M
 sample-spec =
