@@ -1,4 +1,5 @@
 pub mod Splice
+pub mod Copy
 pub mod Middle
 pub mod Line
 pub mod Parts

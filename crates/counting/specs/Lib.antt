@@ -1,3 +1,4 @@
 pub mod Every
 pub mod Below
 pub mod Laws
+pub mod Meets

@@ -9,6 +9,7 @@ use lib.ListN.{length, take, drop, replicate}
 use lib.Ieee.{Float, binary64, add, mul}
 use Rattle.float.specs.Float.{zero as +0}
 use Rattle.cells.specs.Splice.{part}
+use Rattle.counting.specs.Meets.{Meets}
 use Rattle.counting.specs.Below.{pad, tabulate}
 use Rattle.instrument.specs.declared.Instrument.{Instrument}
 use Rattle.instrument.specs.Valid.{keyAt}
@@ -73,6 +74,6 @@ abbrev pub noEnergiesFor : ℕ → EnergiesAnswer
 noEnergiesFor n = record { refusal = n; energies = record { keys = replicate 16 noEnergy; count = 0 } }
 
 -- what `key_energies` promises: "energies 7 and 8", else the energies of "the piano now", which is work memory's first part and all that counts
-pub record EnergiesMeet (i : Instrument) (s : Session) (work : List Float) (r : EnergiesAnswer) : Type 0 where
-  pub refuses : (recordRefusal i s (length work) ≡ 0 → ⊥) → r ≡ noEnergiesFor (recordRefusal i s (length work))
-  pub accepts : recordRefusal i s (length work) ≡ 0 → r ≡ record { refusal = 0; energies = energiesOf i (take (partCells i) work) }
+abbrev pub EnergiesMeet : Instrument → Session → List Float → EnergiesAnswer → Type 0
+EnergiesMeet i s work r =
+    Meets (recordRefusal i s (length work)) (λ n. r ≡ noEnergiesFor n) (r ≡ record { refusal = 0; energies = energiesOf i (take (partCells i) work) })

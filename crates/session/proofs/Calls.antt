@@ -1,7 +1,7 @@
 -- What each call leaves to show: that it may use the renderer, and that what it gives is what it promises. Assumes nothing.
 use mathlib.Core.Path.{_≡_, refl, sym, _∙_, ap}
 use mathlib.Core.Bool.{Bool, true, false}
-use mathlib.Core.Logic.{_⊎_, inl, inr}
+use mathlib.Core.Logic.{inr}
 use mathlib.Core.List.{List, _++_, map, append-nil}
 use Prim.Native.Nat.{ℕ, zero, suc, _+_, _-_, _*_, _<_, _≤_}
 use native.Mathlib.Omega.{arith}
@@ -12,6 +12,7 @@ use lib.ListN.{length, take, drop, getD, set, replicate, drop-of-length-le}
 use lib.Seq.{take-at, drop-at, length-take-le, getD-take, sets, sets-eq}
 use native.Mathlib.Nat.{zero-add}
 use Rattle.float.specs.Float.{zero as zeroCell}
+use Rattle.cells.specs.Copy.{Apart}
 use Rattle.cells.specs.Splice.{part, splice}
 use Rattle.instrument.specs.declared.Instrument.{Instrument}
 use Rattle.instrument.specs.Work.{partCells}
@@ -164,10 +165,10 @@ module _ (i : Instrument) (s : Session) (work : List Float) (n : ℕ) (e : n ≡
             omega (arith, ltb-true (freeSlot (s .cues)) (length (s .cues)) (free-slot-full (s .cues) ∙ lt-ltb (length (keptBy s)) (length (s .cues)) less))
 
         module _ (w : ℕ) (ew : w ≡ partCells i) where
-          pub cue-fits : ((slot + 1) * w + w ≤ length work) × (0 + w ≤ length work) × (((slot + 1) * w + w ≤ 0) ⊎ (0 + w ≤ (slot + 1) * w))
+          pub cue-fits : Apart (length work) ((slot + 1) * w) 0 w
           cue-fits =
               let room : 5 * w ≤ length work = omega (arith, cue-fine .room) in
-              (slot-fits slot w (length work) cue-slot room, omega arith, inr (omega (arith, slot-past slot w)))
+              record { goes = slot-fits slot w (length work) cue-slot room; comes = omega arith; apart = inr (omega (arith, slot-past slot w)) }
 
           pub cue-added : (work′ : List Float) → work′ ≡ splice ((slot + 1) * w) w (part 0 w work) work
               → CueMeets i s work

@@ -1,13 +1,14 @@
 -- Document 01, "The session": what each call promises, by equation: its answer, the session, and every cell of work memory, output and trace afterwards. Scratch is free. Which part
 -- holds which cue is fixed: slot j in part j + 1. Definitions only: assumes nothing.
 use mathlib.Core.Path.{_≡_}
-use mathlib.Core.Bool.{Bool, true, false, cond}
-use mathlib.Core.List.{List, [], _∷_, _++_, map}
+use mathlib.Core.Bool.{true, false, cond}
+use mathlib.Core.List.{List, _++_, map}
 use Prim.Native.Nat.{ℕ, _+_, _-_, _*_}
-use lib.Dec.{eqb, ltb}
+use lib.Dec.{eqb}
 use lib.Ieee.{Float}
 use lib.ListN.{length, take, drop, getD, set, replicate}
 use Rattle.cells.specs.Splice.{part, splice}
+use Rattle.counting.specs.Meets.{Meets}
 use Rattle.instrument.specs.declared.Instrument.{Instrument}
 use Rattle.instrument.specs.Work.{partCells}
 use Rattle.score.specs.declared.Event.the-variants.{Pedal}
@@ -18,13 +19,11 @@ use Rattle.score.specs.Score.{noEvent}
 use Rattle.render.specs.Render.{silentPiano, silence, run, samples, forces}
 use Rattle.positions.specs.Positions.{isIn, above}
 use Rattle.score_edits.specs.Edits.{placed, removed}
-use Rattle.machine.specs.Refusals.{orElse, playRefusal, cueRefusal, goRefusal, insertRefusal, removeRefusal}
 use Rattle.machine.specs.Machine.{startOf, settled}
 use Rattle.session_cues.specs.declared.Cue.{Cue}
 use Rattle.session_cues.specs.Cues.{keptOf, slotAt, freeSlot, dropAbove}
 use Rattle.session_record.specs.declared.Session.{Session}
-use Rattle.session_record.specs.Record.{scoreOf, openRefusal, recordRefusal}
-use Rattle.session.specs.declared.Answer.{Answer}
+use Rattle.session_record.specs.Record.{scoreOf, openRefusal, playNumber, cueNumber, goNumber, insertNumber, removeNumber}
 use Rattle.session.specs.declared.Answer.the-variants.{Refused, Opened, Played, Cued, Went, Edited}
 use Rattle.session.specs.declared.Outcome.{Outcome}
 
@@ -55,16 +54,19 @@ heldAt i s work x = cond (eqb x (s .t)) (stateNow i s work) (cond (isIn x (keptB
 abbrev pub refusedWith : Session → ℕ → Outcome
 refusedWith s n = record { answer = Refused n; session = s }
 
+abbrev pub Refuses : Session → (work : List Float) → Outcome → (work′ : List Float) → ℕ → Type 0
+Refuses s work r work′ n = (r ≡ refusedWith s n) × (work′ ≡ work)
+
 -- ---- open
 
 abbrev pub freshSession : Piano → Session
 freshSession p =
     record { t = 0; count = 0; events = replicate 64 (record { position = 0; event = Pedal false }); cues = replicate 4 (emptyCue p); piano = p }
 
-pub record OpenMeets (i : Instrument) (work : List Float) (r : Outcome) (work′ : List Float) : Type 0 where
-  pub refuses : (openRefusal i (length work) ≡ 0 → ⊥) → (r ≡ refusedWith (freshSession silentPiano) (openRefusal i (length work))) × (work′ ≡ work)
-  pub accepts : openRefusal i (length work) ≡ 0
-      → (r ≡ record { answer = Opened; session = freshSession silentPiano }) × (work′ ≡ silence i .cells ++ drop (partCells i) work)
+abbrev pub OpenMeets : Instrument → List Float → Outcome → List Float → Type 0
+OpenMeets i work r work′ =
+    Meets (openRefusal i (length work)) (Refuses (freshSession silentPiano) work r work′)
+    ((r ≡ record { answer = Opened; session = freshSession silentPiano }) × (work′ ≡ silence i .cells ++ drop (partCells i) work))
 
 -- ---- play
 
@@ -83,10 +85,11 @@ pub record Plays (i : Instrument) (s : Session) (work out trace : List Float) (r
   pub pushes : trace′
       ≡ forces i (scoreOf s) (s .t) (length out) (stateNow i s work) ++ drop (length (forces i (scoreOf s) (s .t) (length out) (stateNow i s work))) trace
 
-pub record PlayMeets (i : Instrument) (s : Session) (work : List Float) (scratch : ℕ) (out trace : List Float) (r : Outcome) (work′ out′ trace′ : List Float) : Type 0 where
-  pub refuses : (orElse (recordRefusal i s (length work)) (playRefusal i (s .t) scratch (length out) (length trace)) ≡ 0 → ⊥)
-      → (r ≡ refusedWith s (orElse (recordRefusal i s (length work)) (playRefusal i (s .t) scratch (length out) (length trace)))) × (work′ ≡ work) × (out′ ≡ out) × (trace′ ≡ trace)
-  pub accepts : orElse (recordRefusal i s (length work)) (playRefusal i (s .t) scratch (length out) (length trace)) ≡ 0 → Plays i s work out trace r work′ out′ trace′
+-- of scratch the length alone: its cells are free
+abbrev pub PlayMeets : Instrument → Session → (work : List Float) (scratch : ℕ) (out trace : List Float) → Outcome → (work′ out′ trace′ : List Float) → Type 0
+PlayMeets i s work scratch out trace r work′ out′ trace′ =
+    Meets (playNumber i s (length work) scratch (length out) (length trace)) (λ n. (r ≡ refusedWith s n) × (work′ ≡ work) × (out′ ≡ out) × (trace′ ≡ trace))
+    (Plays i s work out trace r work′ out′ trace′)
 
 -- ---- cue
 
@@ -105,10 +108,8 @@ pub record Cues (i : Instrument) (s : Session) (work : List Float) (r : Outcome)
       })
       × (work′ ≡ splice ((freeSlot (s .cues) + 1) * partCells i) (partCells i) (take (partCells i) work) work)
 
-pub record CueMeets (i : Instrument) (s : Session) (work : List Float) (r : Outcome) (work′ : List Float) : Type 0 where
-  pub refuses : (orElse (recordRefusal i s (length work)) (cueRefusal (s .t) (keptBy s)) ≡ 0 → ⊥)
-      → (r ≡ refusedWith s (orElse (recordRefusal i s (length work)) (cueRefusal (s .t) (keptBy s)))) × (work′ ≡ work)
-  pub accepts : orElse (recordRefusal i s (length work)) (cueRefusal (s .t) (keptBy s)) ≡ 0 → Cues i s work r work′
+abbrev pub CueMeets : Instrument → Session → List Float → Outcome → List Float → Type 0
+CueMeets i s work r work′ = Meets (cueNumber i s (length work)) (Refuses s work r work′) (Cues i s work r work′)
 
 -- ---- go
 
@@ -125,11 +126,9 @@ pub record Goes (i : Instrument) (s : Session) (work : List Float) (p start : �
       }
   pub memory : work′ ≡ run i (scoreOf s) start (p - start) (heldAt i s work start) .cells ++ drop (partCells i) work
 
-pub record GoMeets (i : Instrument) (s : Session) (work : List Float) (scratch p : ℕ) (r : Outcome) (work′ : List Float) : Type 0 where
-  pub refuses : (orElse (recordRefusal i s (length work)) (goRefusal i scratch p (startOf (s .t) (keptBy s) p)) ≡ 0 → ⊥)
-      → (r ≡ refusedWith s (orElse (recordRefusal i s (length work)) (goRefusal i scratch p (startOf (s .t) (keptBy s) p)))) × (work′ ≡ work)
-  pub accepts : orElse (recordRefusal i s (length work)) (goRefusal i scratch p (startOf (s .t) (keptBy s) p)) ≡ 0
-      → Goes i s work p (startOf (s .t) (keptBy s) p) r work′
+abbrev pub GoMeets : Instrument → Session → (work : List Float) (scratch p : ℕ) → Outcome → List Float → Type 0
+GoMeets i s work scratch p r work′ =
+    Meets (goNumber i s (length work) scratch p) (Refuses s work r work′) (Goes i s work p (startOf (s .t) (keptBy s) p) r work′)
 
 -- ---- insert and remove; past the score the events stay
 
@@ -146,17 +145,18 @@ pub record Edits (i : Instrument) (s : Session) (work : List Float) (q number : 
       }
   pub memory : work′ ≡ heldAt i s work (settled (s .t) (keptBy s) q) .cells ++ drop (partCells i) work
 
-pub record InsertMeets (i : Instrument) (s : Session) (work : List Float) (e : TimedEvent) (r : Outcome) (work′ : List Float) : Type 0 where
-  pub refuses : (orElse (recordRefusal i s (length work)) (insertRefusal (s .count) e) ≡ 0 → ⊥)
-      → (r ≡ refusedWith s (orElse (recordRefusal i s (length work)) (insertRefusal (s .count) e))) × (work′ ≡ work)
-  pub accepts : orElse (recordRefusal i s (length work)) (insertRefusal (s .count) e) ≡ 0
-      → Edits i s work (e .position) (s .count + 1) (placed (scoreOf s) e ++ drop (s .count + 1) (s .events)) r work′
+abbrev pub Inserts : Instrument → Session → List Float → TimedEvent → Outcome → List Float → Type 0
+Inserts i s work e r work′ = Edits i s work (e .position) (s .count + 1) (placed (scoreOf s) e ++ drop (s .count + 1) (s .events)) r work′
 
-pub record RemoveMeets (i : Instrument) (s : Session) (work : List Float) (index : ℕ) (r : Outcome) (work′ : List Float) : Type 0 where
-  pub refuses : (orElse (recordRefusal i s (length work)) (removeRefusal (s .count) index) ≡ 0 → ⊥)
-      → (r ≡ refusedWith s (orElse (recordRefusal i s (length work)) (removeRefusal (s .count) index))) × (work′ ≡ work)
-  pub accepts : orElse (recordRefusal i s (length work)) (removeRefusal (s .count) index) ≡ 0
-      → Edits i s work (getD (scoreOf s) index noEvent .position) (s .count - 1) (removed (scoreOf s) index ++ drop (s .count - 1) (s .events)) r work′
+abbrev pub InsertMeets : Instrument → Session → List Float → TimedEvent → Outcome → List Float → Type 0
+InsertMeets i s work e r work′ = Meets (insertNumber i s (length work) e) (Refuses s work r work′) (Inserts i s work e r work′)
+
+abbrev pub Removes : Instrument → Session → List Float → (index : ℕ) → Outcome → List Float → Type 0
+Removes i s work index r work′ =
+    Edits i s work (getD (scoreOf s) index noEvent .position) (s .count - 1) (removed (scoreOf s) index ++ drop (s .count - 1) (s .events)) r work′
+
+abbrev pub RemoveMeets : Instrument → Session → List Float → (index : ℕ) → Outcome → List Float → Type 0
+RemoveMeets i s work index r work′ = Meets (removeNumber i s (length work) index) (Refuses s work r work′) (Removes i s work index r work′)
 
 -- ---- between them
 

@@ -1,14 +1,14 @@
 -- Laws of work memory's parts and of the state held for a position. Assumes nothing.
 use mathlib.Core.Path.{_≡_, refl, sym, _∙_, ap}
-use mathlib.Core.Bool.{Bool, true, false, cond}
+use mathlib.Core.Bool.{Bool, true, false}
 use mathlib.Core.List.{List, [], _∷_}
 use Prim.Native.Nat.{ℕ, zero, suc, _+_, _*_, _<_, _≤_}
 use native.Mathlib.Omega.{arith}
 use native.Mathlib.Nat.{add-mul, one-mul, mul-le-mul-right}
-use lib.Dec.{eqb, ltb}
+use lib.Dec.{eqb}
 use borrow.Author.Tests.{eqb-true, le-leb, lt-ltb, ltb-true}
 use lib.Ieee.{Float}
-use lib.ListN.{length, take, drop, getD, replicate}
+use lib.ListN.{length, getD, replicate}
 use lib.Seq.{length-take-le}
 use Rattle.float.specs.Float.{zero as zeroCell}
 use Rattle.cells.specs.Splice.{part-length}
@@ -26,12 +26,11 @@ use Rattle.render.specs.Hammers.{OnKey, render-hammer}
 use Rattle.render.specs.Steps.{stateAfter}
 use Rattle.render.specs.Work.{cells-are}
 use Rattle.positions.specs.Positions.{isIn}
-use Rattle.session_cues.specs.declared.Cue.{Cue}
 use Rattle.session_cues.specs.Cues.{contactsOf, hammerOn, slotAt, soundPiano}
 use Rattle.session_cues.specs.Laws.{slot-in, slot-kept, cue-sound, piano-parts}
 use Rattle.session_record.specs.declared.Session.{Session}
 use Rattle.session_record.specs.Laws.{Passed}
-use Rattle.session.specs.Calls.{keptBy, cueAt, emptyCue, stateNow, stateCue, heldAt}
+use Rattle.session.specs.Calls.{keptBy, emptyCue, stateNow, stateCue, heldAt}
 
 -- ---- parts
 

@@ -155,7 +155,7 @@ pub fn cue(instrument: Instrument, session: Session, work: &mut [f64]) -> Outcom
     }
     let slot = session_cues::free_slot(slots);
     let w = session_record::part_size(instrument);
-    memory::copy_part(work, (slot + 1) * w, 0, w);
+    cells::copy_part(work, (slot + 1) * w, 0, w);
     let piano = session.piano;
     let mut next = session;
     next.cues[slot] = Cue {
@@ -181,7 +181,7 @@ fn restore(instrument: Instrument, session: Session, x: u64, work: &mut [f64]) -
     let slots = session.cues;
     let slot = session_cues::slot_at(slots, 0, x);
     if slot < 4 {
-        memory::copy_part(work, 0, (slot + 1) * w, w);
+        cells::copy_part(work, 0, (slot + 1) * w, w);
         let cue = slots[slot];
         return cue.piano;
     }

@@ -1,18 +1,18 @@
 -- The loops over the slots: what each keeps, over the slots that are still to come. Assumes nothing.
-use mathlib.Core.Path.{_≡_, refl, sym, _∙_, ap}
-use mathlib.Core.Bool.{Bool, true, false, cond, not, _&&_, _||_}
-use mathlib.Core.List.{List, [], _∷_, _++_, map}
-use Prim.Native.Nat.{ℕ, zero, suc, _+_, _<_, _≤_, max}
+use mathlib.Core.Path.{_≡_, refl, sym, _∙_}
+use mathlib.Core.Bool.{Bool, true, false, cond, not, _&&_}
+use mathlib.Core.List.{List, [], _∷_, map}
+use Prim.Native.Nat.{ℕ, suc, _+_, _<_, _≤_, max}
 use native.Mathlib.Omega.{arith}
 use native.Mathlib.Numerals.{add-one}
-use lib.Dec.{eqb, leb, ltb}
+use lib.Dec.{leb, ltb}
 use borrow.Author.Tests.{lt-ltb, le-ltb, ltb-true, ltb-false}
 use lib.ListN.{length, take, drop, getD, set, drop-of-length-le, length-drop, length-map, List·getD-map}
 use lib.Seq.{drop-cons, take-suc, take-suc-set, take-all}
 use Rattle.positions.specs.Positions.{count, isIn, above, upTo, greatest}
 use Rattle.positions.specs.Laws.{count-if}
 use Rattle.session_cues.specs.declared.Cue.{Cue}
-use Rattle.session_cues.specs.Cues.{keptOf, standsAt, slotAt, freeSlot, dropAbove, nearer, lostOf, soundCue, soundCues}
+use Rattle.session_cues.specs.Cues.{keptOf, standsAt, slotAt, freeSlot, nearer, lostOf, soundCue, soundCues}
 use Rattle.session_cues.specs.Laws.{slot-in}
 
 and-assoc : (a b c : Bool) → ((a && b) && c) ≡ (a && (b && c))

@@ -1,6 +1,6 @@
 -- Document 01, "The session": the kept cues, as four slots in order. Refusal 7: "a session with .. a cue above the end of 11, .. over four cues or two equal, a hammer on a key not
 -- there, a contact count above its position". Over four cannot be written down here. Definitions only: assumes nothing.
-use mathlib.Core.Bool.{Bool, true, false, cond, not, _&&_, _||_}
+use mathlib.Core.Bool.{Bool, true, cond, not, _&&_, _||_}
 use mathlib.Core.List.{List, [], _∷_}
 use Prim.Native.Nat.{ℕ, suc}
 use lib.Dec.{eqb, leb, ltb}

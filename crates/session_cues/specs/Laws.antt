@@ -1,15 +1,15 @@
 -- Laws of the slots: what they keep as a set of positions, and what a passed test says of each. Assumes nothing.
-use mathlib.Core.Path.{_≡_, refl, sym, _∙_, ap}
+use mathlib.Core.Path.{_≡_, refl, sym, _∙_}
 use mathlib.Core.Bool.{Bool, true, false, cond, not, _&&_, _||_}
 use mathlib.Core.List.{List, [], _∷_, map}
-use Prim.Native.Nat.{ℕ, zero, suc, _+_, _<_, _≤_}
+use Prim.Native.Nat.{ℕ, zero, suc, _<_, _≤_}
 use native.Mathlib.Omega.{arith}
 use lib.Dec.{eqb, leb, ltb, leb·suc-suc}
-use borrow.Author.Tests.{lt-ltb, le-ltb, le-leb, eq-eqb, eqb-true, ltb-true, ltb-false, leb-true, not-true}
-use lib.ListN.{length, take, drop, getD, set}
+use borrow.Author.Tests.{lt-ltb, le-leb, eqb-true, leb-true, not-true}
+use lib.ListN.{length, getD, set}
 use Rattle.score.specs.declared.Piano.{Piano}
-use Rattle.positions.specs.Positions.{end, count, isIn, others, above, upTo, greatest, distinct, Same}
-use Rattle.positions.specs.Laws.{and-true, and-both, true-or-false, count-cons, count-swap, count-le, in-front, in-cons, in-cases, in-none}
+use Rattle.positions.specs.Positions.{end, count, isIn, upTo, distinct, Same}
+use Rattle.positions.specs.Laws.{and-true, and-both, true-or-false, count-swap, in-front, in-cons, in-none}
 use Rattle.session_cues.specs.declared.Cue.{Cue}
 use Rattle.session_cues.specs.Cues.{contactsOf, hammerOn, keptOf, standsAt, slotAt, freeSlot, dropAbove, soundPiano, soundCue, soundCues}
 
@@ -150,10 +150,6 @@ cue-sound keys (c ∷ cs) zero d e h k =
     and-true (leb (c .position) end) (soundPiano keys (c .position) (c .piano)) m .1
 cue-sound keys (c ∷ cs) (suc j) d e h k =
     cue-sound keys cs j d (and-true (soundCue keys c && not (c .kept && isIn (c .position) (keptOf cs))) (soundCues keys cs) e .1) (omega arith) k
-
-not-kept : (b c : Bool) → not (b && c) ≡ true → b ≡ true → c ≡ false
-not-kept true c e k = not-true c e
-not-kept false c e k = true-or-false false k refl
 
 not-again : (b c : Bool) → (b ≡ true → c ≡ false) → not (b && c) ≡ true
 not-again true c h = rw (h refl)

@@ -5,7 +5,6 @@ ghost use mathlib.Core.List.{map};
 ghost use Prim.Native.Nat.{_+_, _≤_};
 ghost use lib.ListN.{length, drop};
 ghost use Rattle.positions.specs.Positions.{upTo, greatest, above};
-ghost use Rattle.session_cues.specs.Cues.{contactsOf, hammerOn};
 ghost use Rattle.session_cues.specs.Cues.{contactsOf, hammerOn, keptOf, standsAt, slotAt, freeSlot, dropAbove, nearer, lostOf, soundPiano, soundCue, soundCues};
 use points::HammerState;
 use score::Piano;

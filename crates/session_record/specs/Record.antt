@@ -1,5 +1,5 @@
 -- Document 01, refusals 7 and 8: "A handed-in record, whose fields are open, is wrong: an instrument that no accepted file gives; or a session with t .. above the end of 11, over 64
--- events, ..", and "Work memory .. has fewer than 5W cells". Definitions only: assumes nothing.
+-- events, ..", and "Work memory .. has fewer than 5W cells"; and each call's number, 7 and 8 before the machine's. Definitions only: assumes nothing.
 use mathlib.Core.Bool.{Bool, not, _&&_}
 use mathlib.Core.List.{List}
 use Prim.Native.Nat.{ℕ, _*_}
@@ -11,8 +11,9 @@ use Rattle.instrument.specs.Work.{partCells}
 use Rattle.score.specs.declared.TimedEvent.{TimedEvent}
 use Rattle.positions.specs.Positions.{end}
 use Rattle.score_edits.specs.Edits.{soundScore}
-use Rattle.session_cues.specs.Cues.{soundPiano, soundCues}
-use Rattle.machine.specs.Refusals.{refuseIf, orElse}
+use Rattle.session_cues.specs.Cues.{keptOf, soundPiano, soundCues}
+use Rattle.machine.specs.Refusals.{refuseIf, orElse, playRefusal, cueRefusal, goRefusal, insertRefusal, removeRefusal}
+use Rattle.machine.specs.Machine.{startOf}
 use Rattle.session_record.specs.declared.Session.{Session}
 
 -- the score: what lies past the count decides nothing
@@ -40,3 +41,19 @@ openRefusal i cells = orElse (refuseIf (not (valid i)) 7) (workTest i cells)
 -- 7 and 8, of every other call
 unfoldable pub recordRefusal : Instrument → Session → ℕ → ℕ
 recordRefusal i s cells = orElse (refuseIf (not (soundRecords i s)) 7) (workTest i cells)
+
+-- "A call tests those that concern it, in this order": each call's number, from the lengths of what it is lent
+abbrev pub playNumber : Instrument → Session → (cells scratch m trace : ℕ) → ℕ
+playNumber i s cells scratch m trace = orElse (recordRefusal i s cells) (playRefusal i (s .t) scratch m trace)
+
+abbrev pub cueNumber : Instrument → Session → (cells : ℕ) → ℕ
+cueNumber i s cells = orElse (recordRefusal i s cells) (cueRefusal (s .t) (keptOf (s .cues)))
+
+abbrev pub goNumber : Instrument → Session → (cells scratch p : ℕ) → ℕ
+goNumber i s cells scratch p = orElse (recordRefusal i s cells) (goRefusal i scratch p (startOf (s .t) (keptOf (s .cues)) p))
+
+abbrev pub insertNumber : Instrument → Session → (cells : ℕ) → TimedEvent → ℕ
+insertNumber i s cells e = orElse (recordRefusal i s cells) (insertRefusal (s .count) e)
+
+abbrev pub removeNumber : Instrument → Session → (cells index : ℕ) → ℕ
+removeNumber i s cells index = orElse (recordRefusal i s cells) (removeRefusal (s .count) index)

@@ -5,10 +5,11 @@ ghost use Rattle.instrument.specs.Valid.{valid};
 ghost use Rattle.instrument.specs.Work.{partCells};
 ghost use Prim.Native.Nat.{_+_, _≤_};
 ghost use lib.ListN.{length};
-ghost use Rattle.machine.specs.Refusals.{orElse, playRefusal, cueRefusal, goRefusal, insertRefusal, removeRefusal, scratchCells};
+ghost use Rattle.machine.specs.Refusals.{scratchCells};
 ghost use Rattle.machine.specs.Machine.{startOf};
 ghost use Rattle.session_cues.specs.Cues.{keptOf};
 ghost use Rattle.session_record.specs.Record.{soundSession, workTest, openRefusal, recordRefusal};
+ghost use Rattle.session_record.specs.Record.{playNumber, cueNumber, goNumber, insertNumber, removeNumber};
 use instrument::Instrument;
 use score::Piano;
 use score::TimedEvent;
@@ -120,7 +121,7 @@ pub fn play_refusal(
     m: usize,
     trace: usize,
 ) -> u64
-    ensures { λ r. ⌜ r ≡ orElse (recordRefusal instrument session cells) (playRefusal instrument (session .t) scratch m trace) ⌝ }
+    ensures { λ r. ⌜ r ≡ playNumber instrument session cells scratch m trace ⌝ }
 {
     let refusal = record_refusal(instrument, session, cells);
     if refusal != 0 {
@@ -140,7 +141,7 @@ pub fn play_refusal(
 
 // Where fewer than four other cues are kept, t is kept already or a slot is free.
 pub fn cue_refusal(instrument: Instrument, session: Session, cells: usize) -> u64
-    ensures { λ r. ⌜ r ≡ orElse (recordRefusal instrument session cells) (cueRefusal (session .t) (keptOf (session .cues))) ⌝ }
+    ensures { λ r. ⌜ r ≡ cueNumber instrument session cells ⌝ }
 {
     let refusal = record_refusal(instrument, session, cells);
     if refusal != 0 {
@@ -176,7 +177,7 @@ pub fn go_refusal(
     scratch: usize,
     p: u64,
 ) -> u64
-    ensures { λ r. ⌜ r ≡ orElse (recordRefusal instrument session cells) (goRefusal instrument scratch p (startOf (session .t) (keptOf (session .cues)) p)) ⌝ }
+    ensures { λ r. ⌜ r ≡ goNumber instrument session cells scratch p ⌝ }
 {
     let refusal = record_refusal(instrument, session, cells);
     if refusal != 0 {
@@ -200,7 +201,7 @@ pub fn insert_refusal(
     cells: usize,
     timed: TimedEvent,
 ) -> u64
-    ensures { λ r. ⌜ r ≡ orElse (recordRefusal instrument session cells) (insertRefusal (session .count) timed) ⌝ }
+    ensures { λ r. ⌜ r ≡ insertNumber instrument session cells timed ⌝ }
 {
     let refusal = record_refusal(instrument, session, cells);
     if refusal != 0 {
@@ -220,7 +221,7 @@ pub fn insert_refusal(
 }
 
 pub fn remove_refusal(instrument: Instrument, session: Session, cells: usize, index: usize) -> u64
-    ensures { λ r. ⌜ r ≡ orElse (recordRefusal instrument session cells) (removeRefusal (session .count) index) ⌝ }
+    ensures { λ r. ⌜ r ≡ removeNumber instrument session cells index ⌝ }
 {
     let refusal = record_refusal(instrument, session, cells);
     if refusal != 0 {

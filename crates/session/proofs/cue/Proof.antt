@@ -41,7 +41,7 @@ add-copy-part c =
 mul-copy-part : tie.Need-mul-copy-part
 mul-copy-part c =
     let from = c .before .before .before .before .before .before .before .before .before .args in
-    record { fits = omega (arith, cue-fits (from .instrument) (from .session) (from .work .now) _ (c .before .before .before .before .before .before .before .cue-refusal .ensures) (c .before .before .before .before .before .before .if1 .left) _ (c .before .before .before .before .slot-at .ensures .0) (c .before .before .before .before .slot-at .ensures .1) (omega arith) _ (c .before .before .free-slot .ensures .0) _ (c .before .part-size .ensures) .0) }
+    record { fits = omega (arith, cue-fits (from .instrument) (from .session) (from .work .now) _ (c .before .before .before .before .before .before .before .cue-refusal .ensures) (c .before .before .before .before .before .before .if1 .left) _ (c .before .before .before .before .slot-at .ensures .0) (c .before .before .before .before .slot-at .ensures .1) (omega arith) _ (c .before .before .free-slot .ensures .0) _ (c .before .part-size .ensures) .goes) }
 
 copy-part-requires : tie.Need-copy-part-requires
 copy-part-requires c κs =

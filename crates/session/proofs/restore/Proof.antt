@@ -35,7 +35,7 @@ copy-part-requires c κs =
     let w = c .before .before .before .before .part-size .result in
     let slot = c .before .before .slot-at .result in
     let fits = slot-fits slot w (length (from .work .now)) (omega arith) (omega (arith, c .before .before .before .before .part-size .ensures, c .before .before .before .before .before .before .before .before .pre .1)) in
-    (omega (arith, fits), fits, inl (omega (arith, slot-past slot w)))
+    record { goes = omega (arith, fits); comes = fits; apart = inl (omega (arith, slot-past slot w)) }
 
 mul-cue : tie.Need-mul-cue
 mul-cue c = search needs

@@ -1,4 +1,5 @@
-use mathlib.Core.Path.{_≡_, refl, sym, _∙_, ap}
+-- By the definition of the count.
+use mathlib.Core.Path.{refl}
 use Rattle.session_cues.specs.Cues.{contactsOf}
 use Rattle.session_cues.proofs.contacts.Statement.{statement}
 use Rattle.session_cues.proofs.contacts.Tie as tie

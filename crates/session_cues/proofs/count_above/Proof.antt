@@ -1,7 +1,8 @@
-use mathlib.Core.Path.{_≡_, refl, sym, _∙_, ap}
-use Prim.Native.Nat.{_+_, _-_, _≤_, _<_}
+-- After i slots: the count so far, at most i, and the number among the slots left make the number of all.
+use mathlib.Core.Path.{_≡_}
+use Prim.Native.Nat.{_+_, _-_, _≤_}
 use native.Mathlib.Omega.{arith}
-use lib.ListN.{length, take, drop}
+use lib.ListN.{length, drop}
 use Rattle.positions.specs.Positions.{above}
 use Rattle.session_cues.specs.Cues.{keptOf}
 use Rattle.session_cues.proofs.Slots.{lost-turn, lost-end}

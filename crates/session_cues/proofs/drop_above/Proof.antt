@@ -1,7 +1,8 @@
-use mathlib.Core.Path.{_≡_, refl, sym, _∙_, ap}
-use Prim.Native.Nat.{_+_, _-_, _≤_, _<_}
+-- After i slots the first i are those of the mapped list.
+use mathlib.Core.Path.{_≡_}
+use Prim.Native.Nat.{_-_, _≤_}
 use native.Mathlib.Omega.{arith}
-use lib.ListN.{length, take, drop, length-set}
+use lib.ListN.{length, take, length-set}
 use mathlib.Core.List.{map}
 use Rattle.session_cues.specs.Cues.{dropAbove}
 use Rattle.session_cues.proofs.Slots.{map-turn, map-end}

@@ -1,4 +1,4 @@
-use mathlib.Core.Path.{_≡_, refl, sym, _∙_, ap}
+-- By the two cases of the hammer.
 use Rattle.session_cues.specs.Cues.{hammerOn}
 use borrow.Author.Needs.{needs}
 use Rattle.session_cues.proofs.is_hammer_on.Statement.{statement}

@@ -1,4 +1,4 @@
-use mathlib.Core.Path.{_≡_, refl, sym, _∙_, ap}
+-- Its tests in the order of the definition.
 use Rattle.session_cues.specs.Cues.{soundCue}
 use borrow.Author.Needs.{needs}
 use Rattle.session_cues.proofs.is_sound_cue.Statement.{statement}

@@ -1,4 +1,4 @@
-use mathlib.Core.Path.{_≡_, refl, sym, _∙_, ap}
+-- Its two tests, each by its own contract.
 use Rattle.session_cues.specs.Cues.{soundPiano}
 use borrow.Author.Needs.{needs}
 use Rattle.session_cues.proofs.is_sound_piano.Statement.{statement}

@@ -1,4 +1,4 @@
-use mathlib.Core.Path.{_≡_, refl, sym, _∙_, ap}
+-- By the two outcomes of the test.
 use native.Mathlib.Omega.{arith}
 use Rattle.session_cues.proofs.lost_of.Statement.{statement}
 use Rattle.session_cues.proofs.lost_of.Tie as tie

@@ -1,7 +1,8 @@
-use mathlib.Core.Path.{_≡_, refl, sym, _∙_, ap}
-use Prim.Native.Nat.{_+_, _-_, _≤_, _<_, max}
+-- After i slots: the greater of the best so far and the nearest among the slots left is the nearest of all.
+use mathlib.Core.Path.{_≡_}
+use Prim.Native.Nat.{_-_, _≤_, max}
 use native.Mathlib.Omega.{arith}
-use lib.ListN.{length, take, drop}
+use lib.ListN.{length, drop}
 use Rattle.positions.specs.Positions.{upTo, greatest}
 use Rattle.session_cues.specs.Cues.{keptOf}
 use Rattle.session_cues.proofs.Slots.{nearest-turn, nearest-end}

@@ -1,7 +1,8 @@
-use mathlib.Core.Path.{_≡_, refl, sym, _∙_, ap}
-use Prim.Native.Nat.{_+_, _-_, _≤_, _<_}
+-- No slot passed keeps x: i and the place of x among the slots left give the place from `first` on.
+use mathlib.Core.Path.{_≡_, sym, _∙_}
+use Prim.Native.Nat.{_+_, _-_, _≤_}
 use native.Mathlib.Omega.{arith}
-use lib.ListN.{length, take, drop}
+use lib.ListN.{length, drop}
 use Rattle.session_cues.specs.Cues.{slotAt}
 use Rattle.session_cues.proofs.Slots.{slot-turn, slot-here, slot-end}
 use borrow.Author.Needs.{needs}

@@ -1,4 +1,5 @@
-use mathlib.Core.Path.{_≡_, refl, sym, _∙_, ap}
+-- 7 and 8 first; then 15: where t has a slot, or a slot is free, fewer than four others are kept, and where neither is so, four are.
+use mathlib.Core.Path.{_∙_}
 use native.Mathlib.Omega.{arith}
 use Rattle.machine.specs.Laws.{else-first, else-next}
 use Rattle.session_record.proofs.Tests.{cue-again, cue-spare, cue-full}
@@ -17,21 +18,29 @@ slot-at-requires c κs = search needs
 
 returns-2 : tie.Need-returns-2
 returns-2 c =
-    let from = c .before .before .before .before .before .args in
-    cue-again (from .session .t) (from .session .cues) (c .before .slot-at .ensures .1) _ (c .before .slot-at .ensures .0) (omega arith) ∙ else-next _ _ _ (c .before .before .before .before .record-refusal .ensures) (c .before .before .before .if1 .left)
+    let at = c .before .before .before in
+    let s = at .before .before .args .session in
+    let again = c .before .slot-at .ensures in
+    cue-again (s .t) (s .cues) (again .1) _ (again .0) (omega arith) ∙ else-next _ _ _ (at .before .record-refusal .ensures) (at .if1 .left)
 
 free-slot-requires : tie.Need-free-slot-requires
 free-slot-requires c κs = search needs
 
 returns-3 : tie.Need-returns-3
 returns-3 c =
-    let from = c .before .before .before .before .before .before .before .args in
-    cue-spare (from .session .t) (from .session .cues) (c .before .free-slot .ensures .1) _ (c .before .free-slot .ensures .0) (omega arith) ∙ else-next _ _ _ (c .before .before .before .before .before .before .record-refusal .ensures) (c .before .before .before .before .before .if1 .left)
+    let at = c .before .before .before .before .before in
+    let s = at .before .before .args .session in
+    let free = c .before .free-slot .ensures in
+    cue-spare (s .t) (s .cues) (free .1) _ (free .0) (omega arith) ∙ else-next _ _ _ (at .before .record-refusal .ensures) (at .if1 .left)
 
 returns-4 : tie.Need-returns-4
 returns-4 c =
-    let from = c .before .before .before .before .before .before .before .args in
-    cue-full (from .session .t) (from .session .cues) (c .before .free-slot .ensures .1) _ _ (c .before .before .before .slot-at .ensures .0) (c .before .free-slot .ensures .0) (omega arith) (omega arith) ∙ else-next _ _ _ (c .before .before .before .before .before .before .record-refusal .ensures) (c .before .before .before .before .before .if1 .left)
+    let at = c .before .before .before .before .before in
+    let s = at .before .before .args .session in
+    let free = c .before .free-slot .ensures in
+    let again = c .before .before .before .slot-at .ensures in
+    cue-full (s .t) (s .cues) (free .1) _ _ (again .0) (free .0) (omega arith) (omega arith)
+    ∙ else-next _ _ _ (at .before .record-refusal .ensures) (at .if1 .left)
 
 pub cue-refusal-spec : {M : Type 1} → statement M
 cue-refusal-spec =

@@ -1,4 +1,4 @@
-use mathlib.Core.Path.{_≡_, refl, sym, _∙_, ap}
+-- Over 64 events it is not sound; else it is what its tests of t, the score, the piano now and the kept cues say.
 use borrow.Author.Tests.{le-leb, lt-leb}
 use Rattle.session_record.specs.Record.{soundSession}
 use borrow.Author.Needs.{needs}
@@ -20,7 +20,10 @@ are-sound-requires c κs = search needs
 
 returns-2 : tie.Need-returns-2
 unfolding soundSession
-returns-2 c = rw (le-leb _ 64 (c .before .before .before .before .before .before .before .if1 .left), c .before .before .before .before .before .is-sound-score .ensures, c .before .before .before .is-sound-piano .ensures, c .before .are-sound .ensures)
+returns-2 c =
+    let scored = c .before .before .before .before .before in
+    let few = scored .before .before .if1 .left in
+    rw (le-leb _ 64 few, scored .is-sound-score .ensures, c .before .before .before .is-sound-piano .ensures, c .before .are-sound .ensures)
 
 pub is-sound-session-spec : {M : Type 1} → statement M
 is-sound-session-spec =

@@ -1,4 +1,5 @@
-use mathlib.Core.Path.{_≡_, refl, sym, _∙_, ap}
+-- 7 where the instrument is wrong, else what the work memory's test gives.
+use mathlib.Core.Path.{sym, _∙_}
 use Rattle.session_record.proofs.Tests.{open-sound, open-wrong}
 use borrow.Author.Needs.{needs}
 use Rattle.session_record.proofs.open_refusal.Statement.{statement}

@@ -1,4 +1,5 @@
-use mathlib.Core.Path.{_≡_, refl, sym, _∙_, ap}
+-- 6S, which fits a number, since S is at most 32.
+use mathlib.Core.Path.{refl}
 use native.Mathlib.Omega.{arith}
 use Rattle.instrument.specs.WorkLaws.{strings-bound}
 use Rattle.machine.specs.Refusals.{scratchCells}

@@ -1,4 +1,4 @@
-use mathlib.Core.Path.{_≡_, refl, sym, _∙_, ap}
+-- The nearest kept cue, or t where it lies nearer: the two ways out, each by its law.
 use Rattle.session_record.proofs.Tests.{start-here, start-there}
 use borrow.Author.Needs.{needs}
 use Rattle.session_record.proofs.start_of.Statement.{statement}

@@ -1,4 +1,4 @@
-use mathlib.Core.Path.{_≡_, refl, sym, _∙_, ap}
+-- 8 where the cells are fewer than five parts; five parts of a record that passes fit a number.
 use native.Mathlib.Omega.{arith}
 use Rattle.instrument.specs.WorkLaws.{part-bound}
 use Rattle.session_record.proofs.Tests.{work-short, work-enough}

@@ -1,18 +1,18 @@
 -- j cells are copied, and the cells to read lie outside what was written.
-use mathlib.Core.Path.{_≡_, refl, sym, _∙_, ap}
-use Prim.Native.Nat.{_+_, _-_, _≤_, _<_}
+use mathlib.Core.Path.{_≡_, refl}
+use Prim.Native.Nat.{_+_, _-_, _≤_}
 use native.Mathlib.Omega.{arith}
-use mathlib.Core.Logic.{_⊎_}
-use Rattle.memory.proofs.Copies.{copy-none, copy-turn, copy-long, copy-done}
-use lib.ListN.{length, take, drop}
+use Rattle.cells.specs.Copy.{Apart}
+use Rattle.cells.proofs.Copies.{copy-none, copy-turn, copy-long, copy-done}
+use lib.ListN.{length, drop}
 use lib.Seq.{paste}
 use borrow.Author.Needs.{needs}
-use Rattle.memory.proofs.copy_part.Statement.{statement}
-use Rattle.memory.proofs.copy_part.Tie as tie
+use Rattle.cells.proofs.copy_part.Statement.{statement}
+use Rattle.cells.proofs.copy_part.Tie as tie
 
 abbrev Inv-loop : tie.InvT-loop
 Inv-loop work₀ to from w end j₀ work j =
-    (j ≤ w) × (end ≡ to + w) × (to + w ≤ length work₀) × (from + w ≤ length work₀) × ((to + w ≤ from) ⊎ (from + w ≤ to)) × (length work ≡ length work₀) × (work ≡ paste work₀ to (drop from work₀) j)
+    (j ≤ w) × (end ≡ to + w) × Apart (length work₀) to from w × (length work ≡ length work₀) × (work ≡ paste work₀ to (drop from work₀) j)
 
 abbrev μ-loop : tie.MeasureT-loop
 μ-loop work₀ to from w end j₀ work j = w - j
@@ -22,8 +22,8 @@ add-end c = search needs
 
 loop-holds : tie.Need-loop-holds Inv-loop μ-loop
 loop-holds c =
-    let from = c .before .args in
-    (omega arith, refl, c .before .pre .0, c .before .pre .1, c .before .pre .2, refl, copy-none (from .work .now) (from .to) (from .from) (from .w) (c .before .pre .0) (c .before .pre .1) (c .before .pre .2))
+    let at = c .before .args in
+    (omega arith, refl, c .before .pre, refl, copy-none (at .work .now) (at .to) (at .from) (at .w) (c .before .pre))
 
 add-x : tie.Need-add-x Inv-loop μ-loop
 add-x c = search needs
@@ -59,25 +59,24 @@ loop-again : tie.Need-loop-again Inv-loop μ-loop
 loop-again c =
     let at = c .before .before .before .before .before .before in
     let from = at .before .before .args in
-    let i = at .loop .inv in (
+    let i = at .loop .inv in
+    let stored = c .before .before .store .ensures in (
       omega arith,
       i .1,
       i .2,
-      i .3,
-      i .4,
-      copy-long (from .work .now) (from .to) (from .from) (from .w) (i .2) (i .3) (i .4) (at .loop .j) (at .loop .work) (omega arith) (i .6) _ _ (c .before .before .store .ensures),
-      copy-turn (from .work .now) (from .to) (from .from) (from .w) (i .2) (i .3) (i .4) (at .loop .j) (at .loop .work) (omega arith) (i .6) _ _ (c .before .before .store .ensures),
+      copy-long (from .work .now) (from .to) (from .from) (from .w) (i .2) (at .loop .j) (at .loop .work) (omega arith) (i .4) _ _ stored,
+      copy-turn (from .work .now) (from .to) (from .from) (from .w) (i .2) (at .loop .j) (at .loop .work) (omega arith) (i .4) _ _ stored,
     )
 
 same-length : tie.Need-same-length Inv-loop μ-loop
-same-length c = c .before .loop .inv .5
+same-length c = c .before .loop .inv .3
 
 returns : tie.Need-returns Inv-loop μ-loop
 returns c =
     let at = c .before in
     let from = at .before .before .args in
     let i = at .loop .inv in
-    copy-done (from .work .now) (from .to) (from .from) (from .w) (i .2) (i .3) (i .4) (at .loop .j) (at .loop .work) (omega arith) (i .6)
+    copy-done (from .work .now) (from .to) (from .from) (from .w) (i .2) (at .loop .j) (at .loop .work) (omega arith) (i .4)
 
 pub copy-part-spec : {M : Type 1} → statement M
 copy-part-spec =

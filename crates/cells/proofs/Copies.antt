@@ -1,8 +1,8 @@
 -- A copy from one part of a memory to another, cell by cell: after j cells a list pasted into the memory (`lib.Seq.paste`). Assumes nothing.
-use mathlib.Core.Path.{_≡_, refl, sym, _∙_, ap}
-use mathlib.Core.Logic.{_⊎_, ⊎-elim}
-use mathlib.Core.List.{List, [], _∷_, _++_, append-assoc}
-use Prim.Native.Nat.{ℕ, zero, suc, _+_, _-_, _<_, _≤_}
+use mathlib.Core.Path.{_≡_, sym, _∙_, ap}
+use mathlib.Core.Logic.{⊎-elim}
+use mathlib.Core.List.{List, _++_, append-assoc}
+use Prim.Native.Nat.{ℕ, _+_, _-_, _<_, _≤_}
 use native.Mathlib.Omega.{arith}
 use native.Mathlib.Nat.{add-sub-of-le}
 use native.Mathlib.Numerals.{add-one}
@@ -10,7 +10,8 @@ use lib.Ieee.{Float}
 use lib.ListN.{length, take, drop, getD, set, length-drop, length-set, List·getD-append}
 use lib.Seq.{getD-take, getD-drop, length-take-le, paste, paste-zero, paste-suc, length-paste, drop-paste, drop-drop}
 use borrow.Rule.Slice.PartMut.{set-mid-at}
+use Rattle.cells.specs.Copy.{Apart}
 use Rattle.cells.specs.Splice.{part, splice, part-length}
 
 module _ (d s : List Float) (at n : ℕ) (z : Float) (fits : at + n ≤ length d) where
   get-before : (k : ℕ) → k < at → getD (paste d at s n) k z ≡ getD d k z
@@ -26,7 +27,7 @@ module _ (d s : List Float) (at n : ℕ) (z : Float) (fits : at + n ≤ length d
       ∙ ap (λ l. getD l (k - (at + n)) z) (drop-paste d at s n (omega arith) g) ∙ getD-drop (at + n) d (k - (at + n)) z ∙ ap (λ x. getD d x z) e
 
 -- `d` the memory before, `m` the memory after j cells
-module _ (d : List Float) (to from w : ℕ) (fits : to + w ≤ length d) (fits′ : from + w ≤ length d) (apart : (to + w ≤ from) ⊎ (from + w ≤ to)) where
+module _ (d : List Float) (to from w : ℕ) (two : Apart (length d) to from w) where
   pub copy-none : d ≡ paste d to (drop from d) 0
   copy-none = paste-zero d to (drop from d)
 
@@ -41,7 +42,7 @@ module _ (d : List Float) (to from w : ℕ) (fits : to + w ≤ length d) (fits�
         ∙ ⊎-elim
         (λ (h : to + w ≤ from). get-after d (drop from d) to j z (omega arith) (from + j) (omega (arith, length-drop from d)) (omega arith))
         (λ (h : from + w ≤ to). get-before d (drop from d) to j z (omega arith) (from + j) (omega arith))
-        apart
+        (two .apart)
         ∙ sym (getD-drop from d j z)
 
     -- the part lent ends at `to + w`
