@@ -1,6 +1,6 @@
--- What each return of a call from C or Rust gives, over plain values. Assumes nothing.
+-- What each return of a call from C or Rust gives, over plain values: what `begin` promises and what the session's call promises make the call's promise. Assumes nothing.
 use mathlib.Core.Path.{_≡_, refl, sym, ap, _∙_, subst}
-use mathlib.Core.Bool.{Bool, true, false, true≢false, false≢true}
+use mathlib.Core.Bool.{Bool, true, false, _&&_, cond}
 use mathlib.Core.List.{List, map}
 use Prim.Native.Nat.{ℕ, _+_, _*_, _≤_, _<_}
 use native.Mathlib.Numerals.{add-one}
@@ -9,7 +9,7 @@ use lib.Dec.{eqb}
 use lib.Ieee.{Float, binary64, ofBits}
 use lib.ListN.{length, take, getD, set, length-map, List·getD-map}
 use lib.Seq.{take-suc, take-suc-set, take-all}
-use borrow.Author.Tests.{eq-eqb, ne-eqb, eqb-true}
+use borrow.Author.Tests.{eq-eqb, ne-eqb, eqb-true, eqb-false}
 use Rattle.counting.specs.Every.{and-left}
 use Rattle.instrument.specs.declared.Instrument.{Instrument}
 use Rattle.instrument_file.specs.declared.ReadAnswer.{ReadAnswer}
@@ -19,27 +19,20 @@ use Rattle.instrument.specs.Work.{countedPart}
 use Rattle.instrument_encoding.specs.Accepted.{accepted-valid}
 use Rattle.session_record.specs.declared.Session.{Session}
 use Rattle.session.specs.declared.Outcome.{Outcome}
-use Rattle.session.specs.Calls.{OpenMeets}
 use Rattle.energies.specs.declared.EnergiesAnswer.{EnergiesAnswer}
 use Rattle.energies.specs.Energy.{EnergiesMeet}
 use Rattle.session_words.specs.declared.Read.{Read}
-use Rattle.session_words.specs.Session.{wordsOf, sessionOf, isSession, isEvent, ReadMeets, PutMeets}
-use Rattle.session_words.specs.Laws.{are-words}
-use Rattle.gingerfile.specs.declared.Reply.{Report}
+use Rattle.session_words.specs.Layout.{sessionSize}
+use Rattle.session_words.specs.Session.{sessionOf, isSession, isEvent, ReadMeets, PutMeets}
+use Rattle.gingerfile.specs.declared.Begun.{Begun}
+use Rattle.gingerfile.specs.declared.Report.{Report}
 use Rattle.gingerfile.specs.declared.KeyEnergies.{KeyEnergies}
-use Rattle.gingerfile.specs.Laws.{Stays}
-use Rattle.gingerfile.specs.Energies.{energyOf, numberOf, noEnergies, flatOf, EnergiesCross}
-use Rattle.gingerfile.specs.Crossing.{refusedBy, reportOf, sizesOf, Keeps, Crosses, InsertCrosses, OpenCrosses}
+use Rattle.gingerfile.specs.Energies.{noEnergies, flatOf, EnergiesCross}
+use Rattle.gingerfile.specs.Crossing.{refusedBy, reportOf, sizesOf, handedRefusal, Begins, Keeps, Crosses}
 
 -- ---- the file
 
 module _ (f : List ℕ) (g : ReadAnswer) (eg : g ≡ readOf f) where
-  was : (readOf f .refusal ≡ 0) → g .refusal ≡ 0
-  was h = ap (λ (x : ReadAnswer). x .refusal) eg ∙ h
-
-  now-is : g .refusal ≡ 0 → readOf f .refusal ≡ 0
-  now-is h = sym (ap (λ (x : ReadAnswer). x .refusal) eg) ∙ h
-
   pub few-strings : g .refusal ≡ 0 → g .instrument .«string_count» ≤ 32
   few-strings h =
       let e : readOf f ≡ accepted (g .instrument) = sym eg ∙ ap (λ (n : ℕ). record { refusal = n; instrument = g .instrument }) h in
@@ -56,131 +49,131 @@ module _ (f : List ℕ) (g : ReadAnswer) (eg : g ≡ readOf f) where
         fs = g .instrument .common .fs;
         keys = g .instrument .«key_count»;
         strings = g .instrument .«string_count»;
-        words = 541;
+        words = sessionSize;
         work = work;
         scratch = 6 * g .instrument .«string_count»;
       } ≡ sizesOf (readOf f)
   unfolding sizesOf
   sizes-given work h e = rw (← eg, eq-eqb (g .refusal) 0 h, e)
 
+-- ---- the number that refuses what is handed
+
+module _ (file : ℕ) (whole : Bool) where
+  -- nothing is refused where the file is accepted and the rest is what it must be
+  nothing-refused : handedRefusal file whole ≡ 0 → (file ≡ 0) × (whole ≡ true)
+  unfolding handedRefusal
+  nothing-refused h = go (eqb file 0) refl whole h
+    where
+      go : (b : Bool) → eqb file 0 ≡ b → (t : Bool) → cond b (cond t 0 7) file ≡ 0 → (file ≡ 0) × (t ≡ true)
+      go true e true h = (eqb-true file 0 e, refl)
+      go true e false h = absurd (omega arith)
+      go false e t h = absurd (eqb-false file 0 e h)
+
+  -- one test more decides where nothing is refused yet
+  more-decides : (more : Bool) → handedRefusal file whole ≡ 0 → cond more 0 7 ≡ handedRefusal file (whole && more)
+  unfolding handedRefusal
+  more-decides more h = rw (nothing-refused h .0, nothing-refused h .1)
+
+  -- it leaves the number of what is refused already
+  refused-already : (more : Bool) → (handedRefusal file whole ≡ 0 → ⊥) → handedRefusal file whole ≡ handedRefusal file (whole && more)
+  unfolding handedRefusal
+  refused-already more h = go (eqb file 0) whole h
+    where
+      go : (b t : Bool) → (cond b (cond t 0 7) file ≡ 0 → ⊥) → cond b (cond t 0 7) file ≡ cond b (cond (t && more) 0 7) file
+      go true true h = absurd (h refl)
+      go true false h = refl
+      go false t h = refl
+
 -- ---- the words
 
-pub session-long : (w : List ℕ) (rd : Read) → ReadMeets w rd → rd .«is_session» ≡ true → length w ≡ 541
+long : (w : List ℕ) → isSession w ≡ true → length w ≡ sessionSize
 unfolding isSession
-session-long w rd e h = eqb-true (length w) 541 (and-left (eqb (length w) 541) _ (sym (e .answer) ∙ h))
+long w h = eqb-true (length w) sessionSize (and-left (eqb (length w) sessionSize) _ h)
 
-pub keeps-whole : (o : Outcome) (w w′ : List ℕ) (t : Bool) (r : Report) → length w ≡ 541 → PutMeets (o .session) w t w′ → r ≡ reportOf (o .answer) → Keeps o r w′
-keeps-whole o w w′ t r h p e = record { reply = e; words = p .writes (p .answer ∙ eq-eqb (length w) 541 h) }
+pub begins : (f w : List ℕ) (g : ReadAnswer) (rd : Read) (n : ℕ) → g ≡ readOf f → ReadMeets w rd → n ≡ handedRefusal (g .refusal) (rd .«is_session»)
+    → Begins f w (record { refusal = n; instrument = g .instrument; session = rd .session })
+begins f w g rd n eg m en =
+    record {
+      number = rw (← eg, ← (m .answer)) en;
+      instrument = rw eg;
+      session = λ h. m .reads (nothing-refused (g .refusal) (rd .«is_session») (sym en ∙ h) .1);
+    }
+
+module _ (o : Outcome) (w : List ℕ) (r : Report) (er : r ≡ reportOf (o .answer)) where
+  pub keeps-refused : (r .refusal ≡ 0 → ⊥) → Keeps o w r w
+  keeps-refused h = record { report = er; words = λ z. absurd (h z); stays = λ _. refl }
+
+  pub keeps-written : r .refusal ≡ 0 → (t : Bool) (w′ : List ℕ) → length w ≡ sessionSize → PutMeets (o .session) w t w′ → Keeps o w r w′
+  keeps-written h t w′ k p = record { report = er; words = λ _. p .writes (p .answer ∙ eq-eqb (length w) sessionSize k); stays = λ z. absurd (z h) }
 
 -- ---- a call
 
-module _ (f w : List ℕ) (Same : Type 0) (Meets : Instrument → Session → Outcome → Type 0) (g : ReadAnswer) (eg : g ≡ readOf f) where
-  pub crosses-file : (g .refusal ≡ 0 → ⊥) → (n : ℕ) (r : Report) → n ≡ g .refusal → r ≡ refusedBy n → Same → Crosses f w r w Same Meets
-  crosses-file h n r en er same =
-      record {
-        file = λ _. (er ∙ ap refusedBy (en ∙ ap (λ (x : ReadAnswer). x .refusal) eg), refl, same);
-        record7 = λ z _. absurd (h (was f g eg z));
-        calls = λ z _. absurd (h (was f g eg z));
-        stays = λ _. refl;
-      }
+module _ {f w : List ℕ} {whole : Bool} {Same : Type 0} {Meets : Instrument → Session → Outcome → Type 0} {r : Report} where
+  pub crosses-refused : {n : ℕ} → n ≡ handedRefusal (readOf f .refusal) whole → (n ≡ 0 → ⊥) → r ≡ refusedBy n → Same → Crosses f whole w r w Same Meets
+  crosses-refused e h er same = record { refuses = λ _. (er ∙ ap refusedBy e, refl, same); calls = λ z. absurd (h (e ∙ z)) }
 
-  module _ (h : g .refusal ≡ 0) (rd : Read) (ed : ReadMeets w rd) where
-    pub crosses-record : rd .«is_session» ≡ false → (r : Report) → r ≡ refusedBy 7 → Same → Crosses f w r w Same Meets
-    crosses-record k r er same =
-        record {
-          file = λ z. absurd (z (now-is f g eg h));
-          record7 = λ _ _. (er, refl, same);
-          calls = λ _ z. absurd (true≢false (sym z ∙ sym (ed .answer) ∙ k));
-          stays = λ _. refl;
-        }
+  pub crosses-called : {n : ℕ} → n ≡ handedRefusal (readOf f .refusal) whole → n ≡ 0 → {w′ : List ℕ} {o : Outcome} → Meets (readOf f .instrument) (sessionOf w) o → Keeps o w r w′
+      → Crosses f whole w r w′ Same Meets
+  crosses-called e h m keeps = record { refuses = λ z. absurd (z (sym e ∙ h)); calls = λ _. record { outcome = _; meets = m; keeps = keeps } }
 
-    -- `still`: a refused call leaves the session
-    pub crosses-call : ((i : Instrument) (s : Session) (o : Outcome) → Meets i s o → Stays i s o) → rd .«is_session» ≡ true → (r : Report) (w′ : List ℕ) (o : Outcome)
-        → Meets (g .instrument) (rd .session) o → Keeps o r w′ → Crosses f w r w′ Same Meets
-    crosses-call still k r w′ o m keeps =
-        record {
-          file = λ z. absurd (z (now-is f g eg h));
-          record7 = λ _ z. absurd (false≢true (sym z ∙ sym (ed .answer) ∙ k));
-          calls = λ _ _. record {
-            outcome = o;
-            meets = subst (λ (x : ReadAnswer). Meets (x .instrument) (sessionOf w) o) eg (subst (λ (x : Session). Meets (g .instrument) x o) (ed .reads k) m);
-            keeps = keeps;
-          };
-          stays = λ not.
-              let same = still (g .instrument) (rd .session) o m (λ z. not (ap (λ (x : Report). x .refusal) (keeps .reply) ∙ z)) in
-              keeps .words ∙ ap wordsOf (same ∙ ed .reads k) ∙ are-words w (sym (ed .answer) ∙ k);
-        }
+-- after `begin`
+module _ {f w : List ℕ} {b : Begun} (m : Begins f w b) where
+  pub begun-long : b .refusal ≡ 0 → length w ≡ sessionSize
+  begun-long h = long w (nothing-refused (readOf f .refusal) (isSession w) (sym (m .number) ∙ h) .1)
 
--- ---- insert, whose event is numbers too
+  -- what holds of what `begin` gave holds of what the file and the words are
+  begun-is : b .refusal ≡ 0 → (P : Instrument → Session → Type 0) → P (b .instrument) (b .session) → P (readOf f .instrument) (sessionOf w)
+  begun-is h P p = subst (P (readOf f .instrument)) (m .session h) (subst (λ (i : Instrument). P i (b .session)) (m .instrument) p)
 
-module _ (kind key : ℕ) (f w : List ℕ) (Same : Type 0) (Meets : Instrument → Session → Outcome → Type 0) (g : ReadAnswer) (eg : g ≡ readOf f) where
-  pub insert-file : (g .refusal ≡ 0 → ⊥) → (n : ℕ) (r : Report) → n ≡ g .refusal → r ≡ refusedBy n → Same → InsertCrosses kind key f w r w Same Meets
-  insert-file h n r en er same =
-      let c = crosses-file f w Same Meets g eg h n r en er same in
-      record { none = λ _ z. absurd (h (was f g eg z)); event = λ _. c; file = c .file }
+  -- whether an event's numbers are one decides where file and words are accepted
+  event-decides : (kind key : ℕ) → b .refusal ≡ 0 → cond (isEvent kind key) 0 7 ≡ handedRefusal (readOf f .refusal) (isSession w && isEvent kind key)
+  event-decides kind key h = more-decides (readOf f .refusal) (isSession w) (isEvent kind key) (sym (m .number) ∙ h)
 
-  module _ (h : g .refusal ≡ 0) where
-    pub insert-none : (t : Bool) → t ≡ isEvent kind key → t ≡ false → (r : Report) → r ≡ refusedBy 7 → Same → InsertCrosses kind key f w r w Same Meets
-    insert-none t et k r er same =
-        record {
-          none = λ _ _. (er, refl, same);
-          event = λ z. absurd (true≢false (sym z ∙ sym et ∙ k));
-          file = λ z. absurd (z (now-is f g eg h));
-        }
+  module _ {Same : Type 0} {Meets : Instrument → Session → Outcome → Type 0} {r : Report} where
+    pub call-refused : (b .refusal ≡ 0 → ⊥) → r ≡ refusedBy (b .refusal) → Same → Crosses f (isSession w) w r w Same Meets
+    call-refused = crosses-refused (m .number)
 
-    pub insert-record : (rd : Read) → ReadMeets w rd → rd .«is_session» ≡ false → (r : Report) → r ≡ refusedBy 7 → Same → InsertCrosses kind key f w r w Same Meets
-    insert-record rd ed k r er same =
-        let c = crosses-record f w Same Meets g eg h rd ed k r er same in
-        record { none = λ _ _. (er, refl, same); event = λ _. c; file = c .file }
+    pub call-made : b .refusal ≡ 0 → {w′ : List ℕ} {o : Outcome} → Meets (b .instrument) (b .session) o → Keeps o w r w′ → Crosses f (isSession w) w r w′ Same Meets
+    call-made h {w′} {o} p keeps = crosses-called (m .number) h (begun-is h (λ i s. Meets i s o) p) keeps
 
-    pub insert-call : ((i : Instrument) (s : Session) (o : Outcome) → Meets i s o → Stays i s o) → (t : Bool) → t ≡ isEvent kind key → t ≡ true → (rd : Read) → ReadMeets w rd → rd .«is_session» ≡ true → (r : Report) (w′ : List ℕ) (o : Outcome)
-        → Meets (g .instrument) (rd .session) o → Keeps o r w′ → InsertCrosses kind key f w r w′ Same Meets
-    insert-call still t et k rd ed l r w′ o m keeps =
-        let c = crosses-call f w Same Meets g eg h rd ed still l r w′ o m keeps in
-        record { none = λ z _. absurd (true≢false (sym k ∙ et ∙ z)); event = λ _. c; file = c .file }
+    -- insert, whose event is numbers too
+    module _ (kind key : ℕ) where
+      pub insert-refused : (b .refusal ≡ 0 → ⊥) → r ≡ refusedBy (b .refusal) → Same → Crosses f (isSession w && isEvent kind key) w r w Same Meets
+      insert-refused h = crosses-refused (m .number ∙ refused-already (readOf f .refusal) (isSession w) (isEvent kind key) (λ z. h (m .number ∙ z))) h
 
--- ---- open
+      pub insert-none : b .refusal ≡ 0 → isEvent kind key ≡ false → r ≡ refusedBy 7 → Same → Crosses f (isSession w && isEvent kind key) w r w Same Meets
+      insert-none h none = crosses-refused (sym (ap (λ (t : Bool). cond t 0 7) none) ∙ event-decides kind key h) (λ z. omega arith)
 
-module _ (f w : List ℕ) (work : List Float) (g : ReadAnswer) (eg : g ≡ readOf f) where
-  pub open-file : (g .refusal ≡ 0 → ⊥) → (n : ℕ) (r : Report) → n ≡ g .refusal → r ≡ refusedBy n → OpenCrosses f w work r w work
-  open-file h n r en er =
-      record {
-        file = λ _. (er ∙ ap refusedBy (en ∙ ap (λ (x : ReadAnswer). x .refusal) eg), refl, refl);
-        record7 = λ z _. absurd (h (was f g eg z));
-        opens = λ z _. absurd (h (was f g eg z));
-      }
+      pub insert-made : b .refusal ≡ 0 → isEvent kind key ≡ true → {w′ : List ℕ} {o : Outcome} → Meets (b .instrument) (b .session) o → Keeps o w r w′
+          → Crosses f (isSession w && isEvent kind key) w r w′ Same Meets
+      insert-made h event {w′} {o} p keeps = crosses-called (sym (ap (λ (t : Bool). cond t 0 7) event) ∙ event-decides kind key h) refl (begun-is h (λ i s. Meets i s o) p) keeps
 
-  module _ (h : g .refusal ≡ 0) where
-    pub open-record : (length w ≡ 541 → ⊥) → (r : Report) → r ≡ refusedBy 7 → OpenCrosses f w work r w work
-    open-record k r er =
-        record {
-          file = λ z. absurd (z (now-is f g eg h));
-          record7 = λ _ _. (er, refl, refl);
-          opens = λ _ z. absurd (k z);
-        }
+  -- energies
+  pub energies-refused : {work : List Float} {r : KeyEnergies} → (b .refusal ≡ 0 → ⊥) → r ≡ noEnergies (b .refusal) → EnergiesCross f w work r
+  energies-refused h er = record { refuses = λ _. er ∙ ap noEnergies (m .number); asks = λ z. absurd (h (m .number ∙ z)) }
 
-    module _ (k : length w ≡ 541) (work′ : List Float) (o : Outcome) (m : OpenMeets (g .instrument) work o work′) (r : Report) (er : r ≡ reportOf (o .answer)) where
-      opened : (w′ : List ℕ) → (r .refusal ≡ 0 → w′ ≡ wordsOf (o .session)) → ((r .refusal ≡ 0 → ⊥) → w′ ≡ w) → OpenCrosses f w work r w′ work′
-      opened w′ a b =
-          record {
-            file = λ z. absurd (z (now-is f g eg h));
-            record7 = λ _ z. absurd (z k);
-            opens = λ _ _. record {
-              outcome = o;
-              meets = subst (λ (x : ReadAnswer). OpenMeets (x .instrument) work o work′) eg m;
-              reply = er;
-              words = a;
-              keeps = b;
-            };
-          }
+  pub energies-asked : {work : List Float} {r : KeyEnergies} → b .refusal ≡ 0 → {a : EnergiesAnswer} → EnergiesMeet (b .instrument) (b .session) work a
+      → r ≡ flatOf (a .refusal) (a .energies .count) (a .energies .keys) → EnergiesCross f w work r
+  energies-asked {work} h {a} p er =
+      record { refuses = λ z. absurd (z (sym (m .number) ∙ h)); asks = λ _. record { answer = a; meets = begun-is h (λ i s. EnergiesMeet i s work a) p; flat = er } }
 
-      pub open-refuses : (r .refusal ≡ 0 → ⊥) → OpenCrosses f w work r w work′
-      open-refuses z = opened w (λ e. absurd (z e)) (λ _. refl)
+-- ---- open, whose words may hold anything before
 
-      pub open-accepts : (q : Report) (w′ : List ℕ) → r .refusal ≡ 0 → Keeps o q w′ → OpenCrosses f w work q w′ work′
-      open-accepts q w′ z keeps = subst (λ (x : Report). OpenCrosses f w work x w′ work′) (er ∙ sym (keeps .reply)) (opened w′ (λ _. keeps .words) (λ e. absurd (e z)))
+module _ (f w : List ℕ) {g : ReadAnswer} {n : ℕ} (eg : g ≡ readOf f) (en : n ≡ handedRefusal (g .refusal) (eqb (length w) sessionSize)) where
+  refusal-is : n ≡ handedRefusal (readOf f .refusal) (eqb (length w) sessionSize)
+  refusal-is = rw (← eg) en
 
--- ---- energies
+  pub open-long : n ≡ 0 → length w ≡ sessionSize
+  open-long h = eqb-true (length w) sessionSize (nothing-refused (g .refusal) (eqb (length w) sessionSize) (sym en ∙ h) .1)
+
+  module _ {Same : Type 0} {Meets : Instrument → Session → Outcome → Type 0} {r : Report} where
+    pub open-refused : (n ≡ 0 → ⊥) → r ≡ refusedBy n → Same → Crosses f (eqb (length w) sessionSize) w r w Same Meets
+    open-refused = crosses-refused refusal-is
+
+    pub open-made : n ≡ 0 → {w′ : List ℕ} {o : Outcome} → Meets (g .instrument) (sessionOf w) o → Keeps o w r w′ → Crosses f (eqb (length w) sessionSize) w r w′ Same Meets
+    open-made h {w′} {o} p keeps = crosses-called refusal-is h (subst (λ (x : ReadAnswer). Meets (x .instrument) (sessionOf w) o) eg p) keeps
+
+-- ---- energies in flat arrays
 
 module _ {A B : Type 0} (g : A → B) where
   -- element k has been copied
@@ -191,35 +184,3 @@ module _ {A B : Type 0} (g : A → B) where
 
   pub map-end : (xs : List A) (out : List B) (k : ℕ) → length xs ≤ k → length out ≡ length xs → take k out ≡ take k (map g xs) → out ≡ map g xs
   map-end xs out k done long inv = sym (take-all k out (omega arith)) ∙ inv ∙ take-all k (map g xs) (omega (arith, length-map xs g))
-
-module _ (f w : List ℕ) (work : List Float) (g : ReadAnswer) (eg : g ≡ readOf f) where
-  pub energies-file : (g .refusal ≡ 0 → ⊥) → (n : ℕ) (r : KeyEnergies) → n ≡ g .refusal → r ≡ noEnergies n → EnergiesCross f w work r
-  energies-file h n r en er =
-      record {
-        file = λ _. er ∙ ap noEnergies (en ∙ ap (λ (x : ReadAnswer). x .refusal) eg);
-        record7 = λ z _. absurd (h (was f g eg z));
-        asks = λ z _. absurd (h (was f g eg z));
-      }
-
-  module _ (h : g .refusal ≡ 0) (rd : Read) (ed : ReadMeets w rd) where
-    pub energies-record : rd .«is_session» ≡ false → (r : KeyEnergies) → r ≡ noEnergies 7 → EnergiesCross f w work r
-    energies-record k r er =
-        record {
-          file = λ z. absurd (z (now-is f g eg h));
-          record7 = λ _ _. er;
-          asks = λ _ z. absurd (true≢false (sym z ∙ sym (ed .answer) ∙ k));
-        }
-
-    pub energies-asked : rd .«is_session» ≡ true → (a : EnergiesAnswer) → EnergiesMeet (g .instrument) (rd .session) work a → (xs : List Float) (ks : List ℕ) → xs ≡ map energyOf (a .energies .keys)
-        → ks ≡ map numberOf (a .energies .keys) → EnergiesCross f w work (record { refusal = a .refusal; count = a .energies .count; energies = xs; keys = ks })
-    unfolding flatOf
-    energies-asked k a m xs ks ex ek =
-        record {
-          file = λ z. absurd (z (now-is f g eg h));
-          record7 = λ _ z. absurd (false≢true (sym z ∙ sym (ed .answer) ∙ k));
-          asks = λ _ _. record {
-            answer = a;
-            meets = subst (λ (x : ReadAnswer). EnergiesMeet (x .instrument) (sessionOf w) work a) eg (subst (λ (x : Session). EnergiesMeet (g .instrument) x work a) (ed .reads k) m);
-            flat = rw (ex, ek);
-          };
-        }

@@ -1,12 +1,11 @@
 -- What a call from C or Rust promises: refusals 1 to 6 of the file it is handed; 7 where its words are no session's; else the session's call on the session that the words are, whose outcome is
 -- answered in numbers and written over the words. Definitions only: assumes nothing.
 use mathlib.Core.Path.{_≡_}
-use mathlib.Core.Bool.{true, false, cond}
+use mathlib.Core.Bool.{Bool, cond}
 use mathlib.Core.List.{List}
 use Prim.Native.Nat.{ℕ, _*_}
 use lib.Dec.{eqb}
-use lib.ListN.{length}
-use lib.Ieee.{Float, binary64, ofBits}
+use lib.Ieee.{binary64, ofBits}
 use Rattle.instrument.specs.declared.Instrument.{Instrument}
 use Rattle.instrument_file.specs.declared.ReadAnswer.{ReadAnswer}
 use Rattle.instrument_file.specs.File.{readOf}
@@ -15,9 +14,10 @@ use Rattle.session_record.specs.declared.Session.{Session}
 use Rattle.session.specs.declared.Answer.{Answer}
 use Rattle.session.specs.declared.Answer.the-variants.{Refused, Opened, Played, Cued, Went, Edited}
 use Rattle.session.specs.declared.Outcome.{Outcome}
-use Rattle.session.specs.Calls.{OpenMeets}
-use Rattle.session_words.specs.Session.{wordsOf, sessionOf, isSession, isEvent}
-use Rattle.gingerfile.specs.declared.Reply.{Report}
+use Rattle.session_words.specs.Layout.{sessionSize}
+use Rattle.session_words.specs.Session.{wordsOf, sessionOf, isSession}
+use Rattle.gingerfile.specs.declared.Begun.{Begun}
+use Rattle.gingerfile.specs.declared.Report.{Report}
 use Rattle.gingerfile.specs.declared.Sizes.{Sizes}
 
 -- ---- answers as numbers
@@ -45,7 +45,7 @@ sizesOf given =
       fs = given .instrument .common .fs;
       keys = given .instrument .«key_count»;
       strings = given .instrument .«string_count»;
-      words = 541;
+      words = sessionSize;
       work = 5 * countedPart (given .instrument);
       scratch = 6 * given .instrument .«string_count»;
     })
@@ -53,39 +53,29 @@ sizesOf given =
 
 -- ---- a call
 
--- an outcome in numbers and words
-pub record Keeps (o : Outcome) (r : Report) (w′ : List ℕ) : Type 0 where
-  pub reply : r ≡ reportOf (o .answer)
-  pub words : w′ ≡ wordsOf (o .session)
+-- the number that refuses what is handed, 0 for none: the file's own, 1 to 6; then 7 where the rest is not what it must be
+unfoldable pub handedRefusal : ℕ → Bool → ℕ
+handedRefusal file whole = cond (eqb file 0) (cond whole 0 7) file
 
-pub record Called (Meets : Outcome → Type 0) (r : Report) (w′ : List ℕ) : Type 0 where
-  pub outcome : Outcome
-  pub meets : Meets outcome
-  pub keeps : Keeps outcome r w′
+-- what a call begins with, of the file f and the words w
+pub record Begins (f w : List ℕ) (b : Begun) : Type 0 where
+  pub number : b .refusal ≡ handedRefusal (readOf f .refusal) (isSession w)
+  pub instrument : b .instrument ≡ readOf f .instrument
+  pub session : b .refusal ≡ 0 → b .session ≡ sessionOf w
 
--- f is the file, w the words before and w′ after; Same says that every other lent cell stayed, Meets what the session's call promises
-pub record Crosses (f w : List ℕ) (r : Report) (w′ : List ℕ) (Same : Type 0) (Meets : Instrument → Session → Outcome → Type 0) : Type 0 where
-  pub file : (readOf f .refusal ≡ 0 → ⊥) → (r ≡ refusedBy (readOf f .refusal)) × (w′ ≡ w) × Same
-  pub record7 : readOf f .refusal ≡ 0 → isSession w ≡ false → (r ≡ refusedBy 7) × (w′ ≡ w) × Same
-  pub calls : readOf f .refusal ≡ 0 → isSession w ≡ true → Called (Meets (readOf f .instrument) (sessionOf w)) r w′
-  -- a refused call changes no word, whoever refuses it
+-- an outcome in numbers and words: w before, w′ after. A refused call changes no word
+pub record Keeps (o : Outcome) (w : List ℕ) (r : Report) (w′ : List ℕ) : Type 0 where
+  pub report : r ≡ reportOf (o .answer)
+  pub words : r .refusal ≡ 0 → w′ ≡ wordsOf (o .session)
   pub stays : (r .refusal ≡ 0 → ⊥) → w′ ≡ w
 
--- numbers that are no event's are refused as 7 too
-pub record InsertCrosses (kind key : ℕ) (f w : List ℕ) (r : Report) (w′ : List ℕ) (Same : Type 0) (Meets : Instrument → Session → Outcome → Type 0) : Type 0 where
-  pub none : isEvent kind key ≡ false → readOf f .refusal ≡ 0 → (r ≡ refusedBy 7) × (w′ ≡ w) × Same
-  pub event : isEvent kind key ≡ true → Crosses f w r w′ Same Meets
-  pub file : (readOf f .refusal ≡ 0 → ⊥) → (r ≡ refusedBy (readOf f .refusal)) × (w′ ≡ w) × Same
-
--- open, whose words may hold anything before; 7 where there are not 541
-pub record Opens (i : Instrument) (w : List ℕ) (work : List Float) (r : Report) (w′ : List ℕ) (work′ : List Float) : Type 0 where
+pub record Called (Meets : Outcome → Type 0) (w : List ℕ) (r : Report) (w′ : List ℕ) : Type 0 where
   pub outcome : Outcome
-  pub meets : OpenMeets i work outcome work′
-  pub reply : r ≡ reportOf (outcome .answer)
-  pub words : r .refusal ≡ 0 → w′ ≡ wordsOf (outcome .session)
-  pub keeps : (r .refusal ≡ 0 → ⊥) → w′ ≡ w
+  pub meets : Meets outcome
+  pub keeps : Keeps outcome w r w′
 
-pub record OpenCrosses (f w : List ℕ) (work : List Float) (r : Report) (w′ : List ℕ) (work′ : List Float) : Type 0 where
-  pub file : (readOf f .refusal ≡ 0 → ⊥) → (r ≡ refusedBy (readOf f .refusal)) × (w′ ≡ w) × (work′ ≡ work)
-  pub record7 : readOf f .refusal ≡ 0 → (length w ≡ 541 → ⊥) → (r ≡ refusedBy 7) × (w′ ≡ w) × (work′ ≡ work)
-  pub opens : readOf f .refusal ≡ 0 → length w ≡ 541 → Opens (readOf f .instrument) w work r w′ work′
+-- f is the file; `whole` tells whether the words are a session's, for insert its numbers an event's too, for open whether there are as many words as a session has
+-- Same says that every lent cell but the words stayed, Meets what the session's call promises
+pub record Crosses (f : List ℕ) (whole : Bool) (w : List ℕ) (r : Report) (w′ : List ℕ) (Same : Type 0) (Meets : Instrument → Session → Outcome → Type 0) : Type 0 where
+  pub refuses : (handedRefusal (readOf f .refusal) whole ≡ 0 → ⊥) → (r ≡ refusedBy (handedRefusal (readOf f .refusal) whole)) × (w′ ≡ w) × Same
+  pub calls : handedRefusal (readOf f .refusal) whole ≡ 0 → Called (Meets (readOf f .instrument) (sessionOf w)) w r w′

@@ -1,6 +1,5 @@
 -- What energies asked from C or Rust promise: `key_energies` on the session that the words are, as numbers in flat arrays. Nothing is lent to be written. Definitions only: assumes nothing.
 use mathlib.Core.Path.{_≡_}
-use mathlib.Core.Bool.{true, false}
 use mathlib.Core.List.{List, map}
 use Prim.Native.Nat.{ℕ}
 use lib.ListN.{replicate}
@@ -11,6 +10,7 @@ use Rattle.energies.specs.declared.EnergiesAnswer.{EnergiesAnswer}
 use Rattle.energies.specs.Energy.{noEnergy, EnergiesMeet}
 use Rattle.session_words.specs.Session.{sessionOf, isSession}
 use Rattle.gingerfile.specs.declared.KeyEnergies.{KeyEnergies}
+use Rattle.gingerfile.specs.Crossing.{handedRefusal}
 
 abbrev pub energyOf : KeyEnergy → Float
 energyOf k = k .energy
@@ -22,15 +22,14 @@ numberOf k = k .key
 abbrev pub noEnergies : ℕ → KeyEnergies
 noEnergies n = record { refusal = n; count = 0; energies = replicate 16 (noEnergy .energy); keys = replicate 16 0 }
 
-unfoldable pub flatOf : EnergiesAnswer → KeyEnergies
-flatOf a = record { refusal = a .refusal; count = a .energies .count; energies = map energyOf (a .energies .keys); keys = map numberOf (a .energies .keys) }
+unfoldable pub flatOf : ℕ → ℕ → List KeyEnergy → KeyEnergies
+flatOf number count pairs = record { refusal = number; count = count; energies = map energyOf pairs; keys = map numberOf pairs }
 
 pub record Asked (Meets : EnergiesAnswer → Type 0) (r : KeyEnergies) : Type 0 where
   pub answer : EnergiesAnswer
   pub meets : Meets answer
-  pub flat : r ≡ flatOf answer
+  pub flat : r ≡ flatOf (answer .refusal) (answer .energies .count) (answer .energies .keys)
 
 pub record EnergiesCross (f w : List ℕ) (work : List Float) (r : KeyEnergies) : Type 0 where
-  pub file : (readOf f .refusal ≡ 0 → ⊥) → r ≡ noEnergies (readOf f .refusal)
-  pub record7 : readOf f .refusal ≡ 0 → isSession w ≡ false → r ≡ noEnergies 7
-  pub asks : readOf f .refusal ≡ 0 → isSession w ≡ true → Asked (EnergiesMeet (readOf f .instrument) (sessionOf w) work) r
+  pub refuses : (handedRefusal (readOf f .refusal) (isSession w) ≡ 0 → ⊥) → r ≡ noEnergies (handedRefusal (readOf f .refusal) (isSession w))
+  pub asks : handedRefusal (readOf f .refusal) (isSession w) ≡ 0 → Asked (EnergiesMeet (readOf f .instrument) (sessionOf w) work) r

@@ -1,19 +1,22 @@
 // The piano for a program in C or Rust: numbers and lent slices alone cross. The instrument crosses as its file's bytes, the session as 541 words (crate session_words), an event by its
 // numbers. Each call reads the file and the words, makes the session's call, and writes the words; a refused call changes nothing, the words neither.
 ghost use mathlib.Core.Path.{_≡_};
-ghost use Prim.Native.Nat.{_*_};
-ghost use mathlib.Core.List.{map};
+ghost use mathlib.Core.Bool.{_&&_};
+ghost use lib.Dec.{eqb};
 ghost use lib.ListN.{length};
 ghost use Rattle.decimator.specs.Decimate.{outputLength, DecimateMeets};
 ghost use Rattle.instrument_file.specs.File.{readOf};
-ghost use Rattle.session.specs.Calls.{PlayMeets, CueMeets, GoMeets, InsertMeets, RemoveMeets};
-ghost use Rattle.session_words.specs.Session.{eventOf};
-ghost use Rattle.gingerfile.specs.Crossing.{refusedBy, reportOf, sizesOf, Keeps, Crosses, OpenCrosses, InsertCrosses};
-ghost use Rattle.gingerfile.specs.Energies.{energyOf, numberOf, noEnergies, EnergiesCross};
+ghost use Rattle.session.specs.Calls.{OpenMeets, PlayMeets, CueMeets, GoMeets, InsertMeets, RemoveMeets};
+ghost use Rattle.session_words.specs.Layout.{sessionSize};
+ghost use Rattle.session_words.specs.Session.{eventOf, isEvent, isSession};
+ghost use Rattle.gingerfile.specs.Crossing.{refusedBy, reportOf, sizesOf, handedRefusal, Begins, Keeps, Crosses};
+ghost use Rattle.gingerfile.specs.Energies.{noEnergies, flatOf, EnergiesCross};
 use energies::KeyEnergy;
+use instrument::Instrument;
 use score::TimedEvent;
 use session::Answer;
 use session::Outcome;
+use session_record::Session;
 
 // What a call answers: the refusal's number, 0 for none; play's number of forces, go's number of samples or an edit's t; and an edit's number of cues dropped.
 #[repr(C)]
@@ -42,6 +45,13 @@ pub struct KeyEnergies {
     pub count: usize,
     pub energies: [f64; 16],
     pub keys: [u8; 16],
+}
+
+// The instrument in a file and the session that words are; the number that refuses the file or the words, 0 for none.
+struct Begun {
+    refusal: u64,
+    instrument: Instrument,
+    session: Session,
 }
 
 const RECORD: u64 = 7;
@@ -93,15 +103,45 @@ fn report_of(answer: Answer) -> Report
     }
 }
 
-// The session after a call is written over the one before it.
+// The session after a call is written over the one before it. A refused call writes nothing.
 fn keep(words: &mut [u64], outcome: Outcome) -> Report
-    requires { ⌜ length (now words) ≡ 541 ⌝ }
-    ensures { λ r. ⌜ Keeps outcome r (now (words .exit)) ⌝ }
+    requires { ⌜ length (now words) ≡ sessionSize ⌝ }
+    ensures { λ r. ⌜ Keeps outcome (now (words .entry)) r (now (words .exit)) ⌝ }
 {
-    let session = outcome.session;
     let answer = outcome.answer;
+    let report = report_of(answer);
+    if report.refusal != 0 {
+        return report;
+    }
+    let session = outcome.session;
     session_words::put_session(words, session);
-    report_of(answer)
+    report
+}
+
+// The file's refusal is met first, then 7 where `whole` says that the rest is not what it must be.
+fn handed_refusal(file: u32, whole: bool) -> u64
+    ensures { λ r. ⌜ r ≡ handedRefusal file whole ⌝ }
+{
+    if file != 0 {
+        return file as u64;
+    }
+    if whole { 0 } else { RECORD }
+}
+
+// What every call does first.
+fn begin(file: &[u8], words: &[u64]) -> Begun
+    ensures { λ r. ⌜ Begins (now (file .entry)) (now (words .entry)) r ⌝ }
+{
+    let given = instrument_file::read(file);
+    let read = session_words::session_at(words);
+    let refusal = handed_refusal(given.refusal, read.is_session);
+    let instrument = given.instrument;
+    let session = read.session;
+    Begun {
+        refusal,
+        instrument,
+        session,
+    }
 }
 
 #[no_mangle]
@@ -134,25 +174,20 @@ pub extern "C" fn gingerfile_read(file: &[u8]) -> Sizes
     }
 }
 
+// The words may hold anything before; 7 where there are not 541.
 #[no_mangle]
 pub extern "C" fn gingerfile_open(file: &[u8], words: &mut [u64], work: &mut [f64]) -> Report
-    ensures { λ r. ⌜ OpenCrosses (now (file .entry)) (now (words .entry)) (now (work .entry)) r (now (words .exit)) (now (work .exit)) ⌝ }
+    ensures { λ r. ⌜ Crosses (now (file .entry)) (eqb (length (now (words .entry))) sessionSize) (now (words .entry)) r (now (words .exit)) (now (work .exit) ≡ now (work .entry))
+        (λ i s o. OpenMeets i (now (work .entry)) o (now (work .exit))) ⌝ }
 {
     let given = instrument_file::read(file);
-    if given.refusal != 0 {
-        return refused(given.refusal as u64);
+    let number = handed_refusal(given.refusal, words.len() == session_words::LENGTH);
+    if number != 0 {
+        return refused(number);
     }
-    if words.len() == session_words::LENGTH {
-        let instrument = given.instrument;
-        let outcome = session::open(instrument, work);
-        let answer = outcome.answer;
-        let reply = report_of(answer);
-        if reply.refusal != 0 {
-            return reply;
-        }
-        return keep(words, outcome);
-    }
-    refused(RECORD)
+    let instrument = given.instrument;
+    let outcome = session::open(instrument, work);
+    keep(words, outcome)
 }
 
 #[no_mangle]
@@ -164,41 +199,35 @@ pub extern "C" fn gingerfile_play(
     out: &mut [f64],
     trace: &mut [f64],
 ) -> Report
-    ensures { λ r. ⌜ Crosses (now (file .entry)) (now (words .entry)) r (now (words .exit))
+    ensures { λ r. ⌜ Crosses (now (file .entry)) (isSession (now (words .entry))) (now (words .entry)) r (now (words .exit))
         ((now (work .exit) ≡ now (work .entry)) × (now (out .exit) ≡ now (out .entry)) × (now (trace .exit) ≡ now (trace .entry)))
         (λ i s o. PlayMeets i s (now (work .entry)) (length (now (scratch .entry))) (now (out .entry)) (now (trace .entry)) o (now (work .exit)) (now (out .exit)) (now (trace .exit))) ⌝ }
 {
-    let given = instrument_file::read(file);
-    if given.refusal != 0 {
-        return refused(given.refusal as u64);
+    let begun = begin(file, words);
+    let number = begun.refusal;
+    if number != 0 {
+        return refused(number);
     }
-    let read = session_words::session_at(words);
-    if read.is_session {
-        let instrument = given.instrument;
-        let session = read.session;
-        let outcome = session::play(instrument, session, work, scratch, out, trace);
-        return keep(words, outcome);
-    }
-    refused(RECORD)
+    let instrument = begun.instrument;
+    let session = begun.session;
+    let outcome = session::play(instrument, session, work, scratch, out, trace);
+    keep(words, outcome)
 }
 
 #[no_mangle]
 pub extern "C" fn gingerfile_cue(file: &[u8], words: &mut [u64], work: &mut [f64]) -> Report
-    ensures { λ r. ⌜ Crosses (now (file .entry)) (now (words .entry)) r (now (words .exit)) (now (work .exit) ≡ now (work .entry))
+    ensures { λ r. ⌜ Crosses (now (file .entry)) (isSession (now (words .entry))) (now (words .entry)) r (now (words .exit)) (now (work .exit) ≡ now (work .entry))
         (λ i s o. CueMeets i s (now (work .entry)) o (now (work .exit))) ⌝ }
 {
-    let given = instrument_file::read(file);
-    if given.refusal != 0 {
-        return refused(given.refusal as u64);
+    let begun = begin(file, words);
+    let number = begun.refusal;
+    if number != 0 {
+        return refused(number);
     }
-    let read = session_words::session_at(words);
-    if read.is_session {
-        let instrument = given.instrument;
-        let session = read.session;
-        let outcome = session::cue(instrument, session, work);
-        return keep(words, outcome);
-    }
-    refused(RECORD)
+    let instrument = begun.instrument;
+    let session = begun.session;
+    let outcome = session::cue(instrument, session, work);
+    keep(words, outcome)
 }
 
 #[no_mangle]
@@ -209,21 +238,18 @@ pub extern "C" fn gingerfile_go(
     scratch: &mut [f64],
     p: u64,
 ) -> Report
-    ensures { λ r. ⌜ Crosses (now (file .entry)) (now (words .entry)) r (now (words .exit)) (now (work .exit) ≡ now (work .entry))
+    ensures { λ r. ⌜ Crosses (now (file .entry)) (isSession (now (words .entry))) (now (words .entry)) r (now (words .exit)) (now (work .exit) ≡ now (work .entry))
         (λ i s o. GoMeets i s (now (work .entry)) (length (now (scratch .entry))) p o (now (work .exit))) ⌝ }
 {
-    let given = instrument_file::read(file);
-    if given.refusal != 0 {
-        return refused(given.refusal as u64);
+    let begun = begin(file, words);
+    let number = begun.refusal;
+    if number != 0 {
+        return refused(number);
     }
-    let read = session_words::session_at(words);
-    if read.is_session {
-        let instrument = given.instrument;
-        let session = read.session;
-        let outcome = session::go(instrument, session, work, scratch, p);
-        return keep(words, outcome);
-    }
-    refused(RECORD)
+    let instrument = begun.instrument;
+    let session = begun.session;
+    let outcome = session::go(instrument, session, work, scratch, p);
+    keep(words, outcome)
 }
 
 // Numbers that are no event's: 7, as for words that are no session's.
@@ -237,24 +263,21 @@ pub extern "C" fn gingerfile_insert(
     key: u64,
     velocity: f64,
 ) -> Report
-    ensures { λ r. ⌜ InsertCrosses kind key (now (file .entry)) (now (words .entry)) r (now (words .exit)) (now (work .exit) ≡ now (work .entry))
+    ensures { λ r. ⌜ Crosses (now (file .entry)) (isSession (now (words .entry)) && isEvent kind key) (now (words .entry)) r (now (words .exit)) (now (work .exit) ≡ now (work .entry))
         (λ i s o. InsertMeets i s (now (work .entry)) (record { position = position; event = eventOf kind key velocity }) o (now (work .exit))) ⌝ }
 {
-    let given = instrument_file::read(file);
-    if given.refusal != 0 {
-        return refused(given.refusal as u64);
+    let begun = begin(file, words);
+    let number = begun.refusal;
+    if number != 0 {
+        return refused(number);
     }
-    let read = session_words::session_at(words);
-    if read.is_session {
-        if session_words::is_event(kind, key) {
-            let instrument = given.instrument;
-            let session = read.session;
-            let event = session_words::event_of(kind, key, velocity);
-            let timed = TimedEvent { position, event };
-            let outcome = session::insert(instrument, session, work, timed);
-            return keep(words, outcome);
-        }
-        return refused(RECORD);
+    if session_words::is_event(kind, key) {
+        let instrument = begun.instrument;
+        let session = begun.session;
+        let event = session_words::event_of(kind, key, velocity);
+        let timed = TimedEvent { position, event };
+        let outcome = session::insert(instrument, session, work, timed);
+        return keep(words, outcome);
     }
     refused(RECORD)
 }
@@ -266,43 +289,36 @@ pub extern "C" fn gingerfile_remove(
     work: &mut [f64],
     index: usize,
 ) -> Report
-    ensures { λ r. ⌜ Crosses (now (file .entry)) (now (words .entry)) r (now (words .exit)) (now (work .exit) ≡ now (work .entry))
+    ensures { λ r. ⌜ Crosses (now (file .entry)) (isSession (now (words .entry))) (now (words .entry)) r (now (words .exit)) (now (work .exit) ≡ now (work .entry))
         (λ i s o. RemoveMeets i s (now (work .entry)) index o (now (work .exit))) ⌝ }
 {
-    let given = instrument_file::read(file);
-    if given.refusal != 0 {
-        return refused(given.refusal as u64);
+    let begun = begin(file, words);
+    let number = begun.refusal;
+    if number != 0 {
+        return refused(number);
     }
-    let read = session_words::session_at(words);
-    if read.is_session {
-        let instrument = given.instrument;
-        let session = read.session;
-        let outcome = session::remove(instrument, session, work, index);
-        return keep(words, outcome);
-    }
-    refused(RECORD)
+    let instrument = begun.instrument;
+    let session = begun.session;
+    let outcome = session::remove(instrument, session, work, index);
+    keep(words, outcome)
 }
 
-fn energies_of(pairs: [KeyEnergy; 16]) -> [f64; 16]
-    ensures { λ r. ⌜ r ≡ map energyOf pairs ⌝ }
+fn flat_of(refusal: u64, count: usize, pairs: [KeyEnergy; 16]) -> KeyEnergies
+    ensures { λ r. ⌜ r ≡ flatOf refusal count pairs ⌝ }
 {
     let mut energies = [0.0; 16];
-    for k in 0usize..16usize {
-        let pair = pairs[k];
-        energies[k] = pair.energy;
-    }
-    energies
-}
-
-fn numbers_of(pairs: [KeyEnergy; 16]) -> [u8; 16]
-    ensures { λ r. ⌜ r ≡ map numberOf pairs ⌝ }
-{
     let mut keys = [0u8; 16];
     for k in 0usize..16usize {
         let pair = pairs[k];
+        energies[k] = pair.energy;
         keys[k] = pair.key;
     }
-    keys
+    KeyEnergies {
+        refusal,
+        count,
+        energies,
+        keys,
+    }
 }
 
 fn no_energies(number: u64) -> KeyEnergies
@@ -320,27 +336,17 @@ fn no_energies(number: u64) -> KeyEnergies
 pub extern "C" fn gingerfile_energies(file: &[u8], words: &[u64], work: &[f64]) -> KeyEnergies
     ensures { λ r. ⌜ EnergiesCross (now (file .entry)) (now (words .entry)) (now (work .entry)) r ⌝ }
 {
-    let given = instrument_file::read(file);
-    if given.refusal != 0 {
-        return no_energies(given.refusal as u64);
+    let begun = begin(file, words);
+    let number = begun.refusal;
+    if number != 0 {
+        return no_energies(number);
     }
-    let read = session_words::session_at(words);
-    if read.is_session {
-        let instrument = given.instrument;
-        let session = read.session;
-        let answer = energies::key_energies(instrument, session, work);
-        let found = answer.energies;
-        let pairs = found.keys;
-        let energies = energies_of(pairs);
-        let keys = numbers_of(pairs);
-        return KeyEnergies {
-            refusal: answer.refusal,
-            count: found.count,
-            energies,
-            keys,
-        };
-    }
-    no_energies(RECORD)
+    let instrument = begun.instrument;
+    let session = begun.session;
+    let answer = energies::key_energies(instrument, session, work);
+    let found = answer.energies;
+    let pairs = found.keys;
+    flat_of(answer.refusal, found.count, pairs)
 }
 
 // How many samples the decimator makes of n.

@@ -6,7 +6,7 @@ use instrument_file::ReadAnswer;
 use instrument_file::read;
 ghost use Rattle.instrument_encoding.specs.Files.{FileRead, GivenTest};
 
-// Reads a file: `instrument::read`, with what an accepted file's record is worth.
+// Reads a file: `instrument_file::read`, with what an accepted file's record is worth.
 pub fn read_file(f: &[u8]) -> ReadAnswer
     ensures { λ r. ⌜ FileRead (now (f .entry)) r ⌝ }
 {

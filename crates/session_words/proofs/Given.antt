@@ -18,8 +18,8 @@ use Rattle.session_cues.specs.declared.Cue.{Cue}
 use Rattle.session_cues.proofs.Cue as CueType
 use Rattle.session_record.specs.declared.Session.{Session}
 use Rattle.session_record.proofs.Session as SessionType
-use Rattle.piano_words.specs.Items.{AllOf}
-use Rattle.piano_words.proofs.Given.{all-owned, fit-piano}
+use Rattle.session_words.specs.Items.{AllOf}
+use Rattle.session_words.proofs.PianoGiven.{all-owned, fit-piano}
 use Rattle.session_words.specs.Laws.{FitEvent, FitTimed, FitCue, FitSession}
 
 fit-event : (e : Event) (vs : List Val) → Is (Chosen.row EventType.the-type) e vs → FitEvent e

@@ -1,2 +1,5 @@
-pub mod Pieces
+pub mod Runs
+pub mod PianoGiven
+pub mod PianoPieces
 pub mod Given
+pub mod Pieces

@@ -1,8 +1,8 @@
 -- What a function stores or reads of a session, over plain words. Assumes nothing.
 use mathlib.Core.Path.{_≡_, refl, sym, ap, _∙_}
 use mathlib.Core.Bool.{Bool, true, false, true≢false, false≢true, _&&_}
-use mathlib.Core.List.{List, [], _∷_, _++_}
-use Prim.Native.Nat.{ℕ, suc, _+_, _*_, _%_}
+use mathlib.Core.List.{List, _++_}
+use Prim.Native.Nat.{ℕ, suc, _+_, _%_}
 use native.Mathlib.Numerals.{add-one}
 use native.Mathlib.Omega.{arith}
 use lib.Dec.{eqb}
@@ -17,10 +17,11 @@ use Rattle.score.specs.declared.TimedEvent.{TimedEvent}
 use Rattle.score.specs.declared.Piano.{Piano}
 use Rattle.session_cues.specs.declared.Cue.{Cue}
 use Rattle.session_record.specs.declared.Session.{Session}
-use Rattle.piano_words.specs.Items.{joined, itemsOf, sets-next, sets-whole}
-use Rattle.piano_words.specs.Piano.{bitOf, pianoWords, pianoOf}
-use Rattle.piano_words.proofs.Pieces.{first}
-use Rattle.session_words.specs.Session.{eventOf, eventWords, timedWords, timedOf, cueWords, cueOf, wordsOf, sessionOf, isSession, ReadMeets, PutMeets}
+use Rattle.session_words.specs.Layout.{timedSize, cueSize, cuePianoOffset, eventsOffset, cuesOffset, pianoOffset, sessionSize}
+use Rattle.session_words.specs.Items.{joined, itemsOf, sets-next, sets-whole}
+use Rattle.session_words.specs.Piano.{bitOf, pianoWords, pianoOf}
+use Rattle.session_words.proofs.Runs.{first}
+use Rattle.session_words.specs.Session.{eventOf, timedWords, timedOf, cueWords, cueOf, wordsOf, sessionOf, isSession, ReadMeets, PutMeets}
 use Rattle.session_words.specs.Laws.{FitSession, events-length, cues-length, words-length, session-back, words-are, fit-of}
 
 -- ---- an event by its numbers
@@ -44,10 +45,6 @@ module _ (kind key : ℕ) (v : Float) where
 
 -- ---- reading
 
--- item i of a run
-pub item-at : (w : List ℕ) (a width i : ℕ) → drop (a + width * i) w ≡ drop (width * i) (drop a w)
-item-at w a width i = sym (drop-drop (width * i) a w)
-
 module _ (w : List ℕ) (at : ℕ) where
   pub timed-read : (q kind key b : ℕ) (v : Float) (e : Event) → q ≡ getD w at 0 → kind ≡ getD w (at + 1) 0 → key ≡ getD w (at + 2) 0 → b ≡ getD w (at + 3) 0 → v ≡ ofBits binary64 b
       → e ≡ eventOf kind key v → record { position = q; event = e } ≡ timedOf (drop at w)
@@ -55,39 +52,29 @@ module _ (w : List ℕ) (at : ℕ) where
   timed-read q kind key b v e eq ek ey eb ev ee =
       rw (eq, ee, ev, ek, ey, eb, first w at, getD-drop at w 1 0, getD-drop at w 2 0, getD-drop at w 3 0)
 
-  pub cue-read : (kept q : ℕ) (p : Piano) → kept ≡ getD w at 0 → q ≡ getD w (at + 1) 0 → p ≡ pianoOf (drop (at + 2) w)
+  pub cue-read : (kept q : ℕ) (p : Piano) → kept ≡ getD w at 0 → q ≡ getD w (at + 1) 0 → p ≡ pianoOf (drop (at + cuePianoOffset) w)
       → record { kept = eqb kept 1; position = q; piano = p } ≡ cueOf (drop at w)
   unfolding cueOf
-  cue-read kept q p ek eq ep = rw (ek, eq, ep, first w at, getD-drop at w 1 0, drop-drop 2 at w)
+  cue-read kept q p ek eq ep = rw (ek, eq, ep, first w at, getD-drop at w 1 0, drop-drop cuePianoOffset at w)
 
-pub session-read : (w : List ℕ) (t count : ℕ) (es : List TimedEvent) (cs : List Cue) (p : Piano) → t ≡ getD w 0 0 → count ≡ getD w 1 0 → es ≡ itemsOf timedOf 4 64 (drop 2 w)
-    → cs ≡ itemsOf cueOf 57 4 (drop 258 w) → p ≡ pianoOf (drop 486 w) → record { t = t; count = count; events = es; cues = cs; piano = p } ≡ sessionOf w
+pub session-read : (w : List ℕ) (t count : ℕ) (es : List TimedEvent) (cs : List Cue) (p : Piano) → t ≡ getD w 0 0 → count ≡ getD w 1 0 → es ≡ itemsOf timedOf timedSize 64 (drop eventsOffset w)
+    → cs ≡ itemsOf cueOf cueSize 4 (drop cuesOffset w) → p ≡ pianoOf (drop pianoOffset w) → record { t = t; count = count; events = es; cues = cs; piano = p } ≡ sessionOf w
 unfolding sessionOf
 session-read w t count es cs p e1 e2 e3 e4 e5 = rw (e1, e2, e3, e4, e5)
 
 -- ---- writing
 
-pub three-stores : (l l1 l2 l3 : List ℕ) (at a b c : ℕ) → l1 ≡ set l at a → l2 ≡ set l1 (at + 1) b → l3 ≡ set l2 (at + 2) c → l3 ≡ sets l at (a ∷ b ∷ c ∷ [])
-three-stores l l1 l2 l3 at a b c e1 e2 e3 =
-    let n1 : at + 1 ≡ suc at = omega arith in
-    let n2 : at + 2 ≡ suc (suc at) = omega arith in
-    cc
-
-pub timed-stores : (l l1 l2 : List ℕ) (at : ℕ) (e : TimedEvent) → l1 ≡ set l at (e .position) → l2 ≡ sets l1 (at + 1) (eventWords (e .event)) → l2 ≡ sets l at (timedWords e)
-unfolding timedWords
-timed-stores l l1 l2 at e e1 e2 = let n : at + 1 ≡ suc at = omega arith in rw (e2, e1, n)
-
-pub cue-stores : (l l1 l2 l3 : List ℕ) (at b : ℕ) (c : Cue) → b ≡ bitOf (c .kept) → l1 ≡ set l at b → l2 ≡ set l1 (at + 1) (c .position) → l3 ≡ sets l2 (at + 2) (pianoWords (c .piano))
+pub cue-stores : (l l1 l2 l3 : List ℕ) (at b : ℕ) (c : Cue) → b ≡ bitOf (c .kept) → l1 ≡ set l at b → l2 ≡ set l1 (at + 1) (c .position) → l3 ≡ sets l2 (at + cuePianoOffset) (pianoWords (c .piano))
     → l3 ≡ sets l at (cueWords c)
 unfolding cueWords
 cue-stores l l1 l2 l3 at b c eb e1 e2 e3 =
     let n1 : at + 1 ≡ suc at = omega arith in
-    let n2 : at + 2 ≡ suc (suc at) = omega arith in
+    let n2 : at + cuePianoOffset ≡ suc (suc at) = omega arith in
     rw (e3, e2, e1, eb, n1, n2)
 
 module _ (s : Session) (f : FitSession s) where
-  pub session-stores : (l l1 l2 l3 l4 l5 : List ℕ) → l1 ≡ set l 0 (s .t) → l2 ≡ set l1 1 (s .count) → l3 ≡ sets l2 2 (joined timedWords (s .events))
-      → l4 ≡ sets l3 258 (joined cueWords (s .cues)) → l5 ≡ sets l4 486 (pianoWords (s .piano)) → l5 ≡ sets l 0 (wordsOf s)
+  pub session-stores : (l l1 l2 l3 l4 l5 : List ℕ) → l1 ≡ set l 0 (s .t) → l2 ≡ set l1 1 (s .count) → l3 ≡ sets l2 eventsOffset (joined timedWords (s .events))
+      → l4 ≡ sets l3 cuesOffset (joined cueWords (s .cues)) → l5 ≡ sets l4 pianoOffset (pianoWords (s .piano)) → l5 ≡ sets l 0 (wordsOf s)
   unfolding wordsOf
   session-stores l l1 l2 l3 l4 l5 e1 e2 e3 e4 e5 =
       let x1 = joined timedWords (s .events) in
@@ -97,28 +84,28 @@ module _ (s : Session) (f : FitSession s) where
       let n2 = cues-length s f in
       let base : l2 ≡ set (set l 0 (s .t)) 1 (s .count) = rw (e2, e1) in
       e5
-      ∙ ap (λ (v : List ℕ). sets v 486 x3) e4
-      ∙ sets-next l3 x2 x3 258 486 (omega arith)
-      ∙ ap (λ (v : List ℕ). sets v 258 (x2 ++ x3)) e3
-      ∙ sets-next l2 x1 (x2 ++ x3) 2 258 (omega arith)
-      ∙ ap (λ (v : List ℕ). sets v 2 (x1 ++ (x2 ++ x3))) base
+      ∙ ap (λ (v : List ℕ). sets v pianoOffset x3) e4
+      ∙ sets-next l3 x2 x3 cuesOffset pianoOffset (omega arith)
+      ∙ ap (λ (v : List ℕ). sets v cuesOffset (x2 ++ x3)) e3
+      ∙ sets-next l2 x1 (x2 ++ x3) eventsOffset cuesOffset (omega arith)
+      ∙ ap (λ (v : List ℕ). sets v eventsOffset (x1 ++ (x2 ++ x3))) base
 
   module _ (w w′ : List ℕ) where
-    pub put-whole : length w ≡ 541 → w′ ≡ sets w 0 (wordsOf s) → PutMeets s w true w′
+    pub put-whole : length w ≡ sessionSize → w′ ≡ sets w 0 (wordsOf s) → PutMeets s w true w′
     put-whole h e =
         let whole : w′ ≡ wordsOf s = e ∙ sets-whole w (wordsOf s) (words-length s f ∙ sym h) in
         record {
-          answer = sym (eq-eqb (length w) 541 h);
+          answer = sym (eq-eqb (length w) sessionSize h);
           writes = λ _. whole;
           keeps = λ z. absurd (true≢false z);
           tells = λ _. ap isSession whole ∙ words-are s f;
           back = λ _. ap sessionOf whole ∙ session-back s f;
         }
 
-  pub put-none : (w : List ℕ) → (length w ≡ 541 → ⊥) → PutMeets s w false w
+  pub put-none : (w : List ℕ) → (length w ≡ sessionSize → ⊥) → PutMeets s w false w
   put-none w h =
       record {
-        answer = sym (ne-eqb (length w) 541 h);
+        answer = sym (ne-eqb (length w) sessionSize h);
         writes = λ z. absurd (false≢true z);
         keeps = λ _. refl;
         tells = λ z. absurd (false≢true z);
@@ -133,15 +120,15 @@ unfolding allBelow
 all-next P i t e = rw (add-one, e)
 
 module _ (w : List ℕ) (s : Session) where
-  pub read-whole : s ≡ sessionOf w → (l again : List ℕ) (r : Bool) → length w ≡ 541 → length l ≡ 541 → again ≡ sets l 0 (wordsOf s)
-      → r ≡ allBelow 541 (λ i. eqb (getD w i 0) (getD again i 0)) → ReadMeets w (record { «is_session» = r; session = s })
+  pub read-whole : s ≡ sessionOf w → (l again : List ℕ) (r : Bool) → length w ≡ sessionSize → length l ≡ sessionSize → again ≡ sets l 0 (wordsOf s)
+      → r ≡ allBelow sessionSize (λ i. eqb (getD w i 0) (getD again i 0)) → ReadMeets w (record { «is_session» = r; session = s })
   unfolding isSession
   read-whole es l again r h k ea er =
       let long = ap (λ (z : Session). length (wordsOf z)) es ∙ words-length (sessionOf w) (fit-of w) in
       let a : again ≡ wordsOf (sessionOf w) = ea ∙ sets-whole l (wordsOf s) (long ∙ sym k) ∙ ap wordsOf es in
-      let t : r ≡ allBelow 541 (λ i. eqb (getD w i 0) (getD (wordsOf (sessionOf w)) i 0)) = er ∙ ap (λ (v : List ℕ). allBelow 541 (λ i. eqb (getD w i 0) (getD v i 0))) a in
-      record { answer = rw (eq-eqb (length w) 541 h) t; reads = λ _. es }
+      let t : r ≡ allBelow sessionSize (λ i. eqb (getD w i 0) (getD (wordsOf (sessionOf w)) i 0)) = er ∙ ap (λ (v : List ℕ). allBelow sessionSize (λ i. eqb (getD w i 0) (getD v i 0))) a in
+      record { answer = rw (eq-eqb (length w) sessionSize h) t; reads = λ _. es }
 
-  pub read-none : (length w ≡ 541 → ⊥) → ReadMeets w (record { «is_session» = false; session = s })
+  pub read-none : (length w ≡ sessionSize → ⊥) → ReadMeets w (record { «is_session» = false; session = s })
   unfolding isSession
-  read-none h = record { answer = rw (ne-eqb (length w) 541 h); reads = λ z. absurd (false≢true z) }
+  read-none h = record { answer = rw (ne-eqb (length w) sessionSize h); reads = λ z. absurd (false≢true z) }

@@ -18,9 +18,10 @@ use Rattle.score.specs.declared.Event.the-variants.{NoteOn, NoteOff, Pedal, Han
 use Rattle.score.specs.declared.TimedEvent.{TimedEvent}
 use Rattle.session_cues.specs.declared.Cue.{Cue}
 use Rattle.session_record.specs.declared.Session.{Session}
-use Rattle.piano_words.specs.Items.{joined, itemsOf, AllOf, joined-length, items-back, items-length, all-items}
-use Rattle.piano_words.specs.Piano.{pianoWords, pianoOf}
-use Rattle.piano_words.specs.Back.{Fit, FitPiano, flag-back, piano-length, piano-back, fit-piano-of}
+use Rattle.session_words.specs.Layout.{eventSize, timedSize, cueSize, cuePianoOffset, eventsOffset, cuesOffset, pianoOffset, sessionSize}
+use Rattle.session_words.specs.Items.{joined, itemsOf, AllOf, joined-length, items-back, items-length, all-items}
+use Rattle.session_words.specs.Piano.{pianoWords, pianoOf}
+use Rattle.session_words.specs.PianoLaws.{Fit, FitPiano, flag-back, piano-length, piano-back, fit-piano-of}
 use Rattle.session_words.specs.Session.{eventOf, eventWords, timedWords, timedOf, cueWords, cueOf, wordsOf, sessionOf, isSession}
 
 unfoldable pub FitEvent : Event → Type 0
@@ -44,18 +45,18 @@ pub record FitSession (s : Session) : Type 0 where
 
 -- ---- the pieces
 
-event-length : (e : Event) → length (eventWords e) ≡ 3
+event-length : (e : Event) → length (eventWords e) ≡ eventSize
 unfolding eventWords
 event-length (NoteOn k v) = refl
 event-length (NoteOff k) = refl
 event-length (Pedal d) = refl
 event-length (HandDamp k) = refl
 
-pub timed-size : (e : TimedEvent) → length (timedWords e) ≡ 4
+pub timed-size : (e : TimedEvent) → length (timedWords e) ≡ timedSize
 unfolding timedWords
 timed-size e = ap suc (event-length (e .event))
 
-pub cue-length : (c : Cue) → FitCue c → length (cueWords c) ≡ 57
+pub cue-length : (c : Cue) → FitCue c → length (cueWords c) ≡ cueSize
 unfolding cueWords
 cue-length c f = ap (λ (n : ℕ). suc (suc n)) (piano-length (c .piano) f)
 
@@ -90,13 +91,13 @@ module _ (s : Session) (f : FitSession s) where
   abbrev x3 : List ℕ
   x3 = pianoWords (s .piano)
 
-  pub events-length : length x1 ≡ 256
-  events-length = joined-length FitTimed timedWords 4 (λ e h. timed-size e) (s .events) (f .events) ∙ ap (λ (n : ℕ). 4 * n) (f .eventsLong)
+  pub events-length : length x1 ≡ timedSize * 64
+  events-length = joined-length FitTimed timedWords timedSize (λ e h. timed-size e) (s .events) (f .events) ∙ ap (λ (n : ℕ). timedSize * n) (f .eventsLong)
 
-  pub cues-length : length x2 ≡ 228
-  cues-length = joined-length FitCue cueWords 57 cue-length (s .cues) (f .cues) ∙ ap (λ (n : ℕ). 57 * n) (f .cuesLong)
+  pub cues-length : length x2 ≡ cueSize * 4
+  cues-length = joined-length FitCue cueWords cueSize cue-length (s .cues) (f .cues) ∙ ap (λ (n : ℕ). cueSize * n) (f .cuesLong)
 
-  pub words-length : length (wordsOf s) ≡ 541
+  pub words-length : length (wordsOf s) ≡ sessionSize
   unfolding wordsOf
   words-length =
       let n1 = events-length in
@@ -111,24 +112,24 @@ module _ (s : Session) (f : FitSession s) where
   unfolding sessionOf wordsOf
   session-back =
       let w = s .t ∷ s .count ∷ (x1 ++ (x2 ++ x3)) in
-      let e1 : drop 2 w ≡ x1 ++ (x2 ++ x3) = refl in
-      let e2 : drop 258 w ≡ x2 ++ x3 = sym (drop-drop 256 2 w) ∙ drop-at x1 (x2 ++ x3) 256 events-length in
-      let e3 : drop 486 w ≡ x3 = sym (drop-drop 228 258 w) ∙ ap (drop 228) e2 ∙ drop-at x2 x3 228 cues-length in
-      let h1 : itemsOf timedOf 4 64 (drop 2 w) ≡ s .events =
-      ap (λ (n : ℕ). itemsOf timedOf 4 n (x1 ++ (x2 ++ x3))) (sym (f .eventsLong))
-      ∙ items-back FitTimed timedWords 4 (λ e h. timed-size e) timedOf timed-back (s .events) (f .events) (x2 ++ x3) in
-      let h2 : itemsOf cueOf 57 4 (drop 258 w) ≡ s .cues =
-      ap (itemsOf cueOf 57 4) e2 ∙ ap (λ (n : ℕ). itemsOf cueOf 57 n (x2 ++ x3)) (sym (f .cuesLong))
-      ∙ items-back FitCue cueWords 57 cue-length cueOf cue-back (s .cues) (f .cues) x3 in
-      let h3 : pianoOf (drop 486 w) ≡ s .piano = ap pianoOf (e3 ∙ sym (append-nil x3)) ∙ piano-back (s .piano) (f .piano) [] in
+      let e1 : drop eventsOffset w ≡ x1 ++ (x2 ++ x3) = refl in
+      let e2 : drop cuesOffset w ≡ x2 ++ x3 = sym (drop-drop (timedSize * 64) eventsOffset w) ∙ drop-at x1 (x2 ++ x3) (timedSize * 64) events-length in
+      let e3 : drop pianoOffset w ≡ x3 = sym (drop-drop (cueSize * 4) cuesOffset w) ∙ ap (drop (cueSize * 4)) e2 ∙ drop-at x2 x3 (cueSize * 4) cues-length in
+      let h1 : itemsOf timedOf timedSize 64 (drop eventsOffset w) ≡ s .events =
+      ap (λ (n : ℕ). itemsOf timedOf timedSize n (x1 ++ (x2 ++ x3))) (sym (f .eventsLong))
+      ∙ items-back FitTimed timedWords timedSize (λ e h. timed-size e) timedOf timed-back (s .events) (f .events) (x2 ++ x3) in
+      let h2 : itemsOf cueOf cueSize 4 (drop cuesOffset w) ≡ s .cues =
+      ap (itemsOf cueOf cueSize 4) e2 ∙ ap (λ (n : ℕ). itemsOf cueOf cueSize n (x2 ++ x3)) (sym (f .cuesLong))
+      ∙ items-back FitCue cueWords cueSize cue-length cueOf cue-back (s .cues) (f .cues) x3 in
+      let h3 : pianoOf (drop pianoOffset w) ≡ s .piano = ap pianoOf (e3 ∙ sym (append-nil x3)) ∙ piano-back (s .piano) (f .piano) [] in
       rw (h1, h2, h3)
 
   -- a session's words are told to be one's
   pub words-are : isSession (wordsOf s) ≡ true
   unfolding isSession
   words-are =
-      rw (eq-eqb (length (wordsOf s)) 541 words-length)
-      (all-build 541 (λ i. eqb (getD (wordsOf s) i 0) (getD (wordsOf (sessionOf (wordsOf s))) i 0))
+      rw (eq-eqb (length (wordsOf s)) sessionSize words-length)
+      (all-build sessionSize (λ i. eqb (getD (wordsOf s) i 0) (getD (wordsOf (sessionOf (wordsOf s))) i 0))
       (λ i h. eq-eqb (getD (wordsOf s) i 0) (getD (wordsOf (sessionOf (wordsOf s))) i 0) (ap (λ (z : Session). getD (wordsOf z) i 0) (sym session-back))))
 
 -- ---- whatever the words are, what is read from them is a value of the type
@@ -151,24 +152,24 @@ fit-timed-of w =
 
 fit-cue-of : (w : List ℕ) → FitCue (cueOf w)
 unfolding cueOf
-fit-cue-of w = fit-piano-of (drop 2 w)
+fit-cue-of w = fit-piano-of (drop cuePianoOffset w)
 
 pub fit-of : (w : List ℕ) → FitSession (sessionOf w)
 unfolding sessionOf
 fit-of w =
     record {
-      eventsLong = items-length timedOf 4 64 (drop 2 w);
-      events = all-items FitTimed timedOf fit-timed-of 4 64 (drop 2 w);
-      cuesLong = items-length cueOf 57 4 (drop 258 w);
-      cues = all-items FitCue cueOf fit-cue-of 57 4 (drop 258 w);
-      piano = fit-piano-of (drop 486 w);
+      eventsLong = items-length timedOf timedSize 64 (drop eventsOffset w);
+      events = all-items FitTimed timedOf fit-timed-of timedSize 64 (drop eventsOffset w);
+      cuesLong = items-length cueOf cueSize 4 (drop cuesOffset w);
+      cues = all-items FitCue cueOf fit-cue-of cueSize 4 (drop cuesOffset w);
+      piano = fit-piano-of (drop pianoOffset w);
     }
 
 -- THE LAW: words that are told to be a session's are those of the session read from them
 pub are-words : (w : List ℕ) → isSession w ≡ true → wordsOf (sessionOf w) ≡ w
 unfolding isSession
 are-words w h =
-    let here : length w ≡ 541 = eqb-true (length w) 541 (and-left (eqb (length w) 541) _ h) in
+    let here : length w ≡ sessionSize = eqb-true (length w) sessionSize (and-left (eqb (length w) sessionSize) _ h) in
     let there = words-length (sessionOf w) (fit-of w) in
-    let each = all-at (λ i. eqb (getD w i 0) (getD (wordsOf (sessionOf w)) i 0)) 541 (and-right (eqb (length w) 541) _ h) in
+    let each = all-at (λ i. eqb (getD w i 0) (getD (wordsOf (sessionOf w)) i 0)) sessionSize (and-right (eqb (length w) sessionSize) _ h) in
     ext-getD 0 (wordsOf (sessionOf w)) w (there ∙ sym here) (λ i k. sym (eqb-true (getD w i 0) (getD (wordsOf (sessionOf w)) i 0) (each i (omega (arith, there)))))

@@ -1,5 +1,5 @@
--- A session as 541 words: t and the number of events; 64 events of 4 words (position; kind 0 a strike, 1 a release, 2 the pedal, 3 a hand damp; key, or 1 for a pedal that is down; a strike's
--- velocity, else 0); four cues of 57 (1 where it is kept, position, its piano); the piano now. Definitions only: assumes nothing.
+-- A session as words: t and the number of events; 64 events (position; kind 0 a strike, 1 a release, 2 the pedal, 3 a hand damp; key, or 1 for a pedal that is down; a strike's velocity,
+-- else 0); four cues (1 where it is kept, position, its piano); the piano now: 541 in all, as Layout counts them. Definitions only: assumes nothing.
 use mathlib.Core.Path.{_≡_}
 use mathlib.Core.Bool.{Bool, true, false, cond, _&&_}
 use mathlib.Core.List.{List, [], _∷_, _++_}
@@ -13,8 +13,9 @@ use Rattle.score.specs.declared.Event.the-variants.{NoteOn, NoteOff, Pedal, Han
 use Rattle.score.specs.declared.TimedEvent.{TimedEvent}
 use Rattle.session_cues.specs.declared.Cue.{Cue}
 use Rattle.session_record.specs.declared.Session.{Session}
-use Rattle.piano_words.specs.Items.{joined, itemsOf}
-use Rattle.piano_words.specs.Piano.{bitOf, pianoWords, pianoOf}
+use Rattle.session_words.specs.Layout.{timedSize, cueSize, cuePianoOffset, eventsOffset, cuesOffset, pianoOffset, sessionSize}
+use Rattle.session_words.specs.Items.{joined, itemsOf}
+use Rattle.session_words.specs.Piano.{bitOf, pianoWords, pianoOf}
 use Rattle.session_words.specs.declared.Read.{Read}
 
 -- ---- an event by its numbers
@@ -44,19 +45,25 @@ unfoldable pub cueWords : Cue → List ℕ
 cueWords c = bitOf (c .kept) ∷ c .position ∷ pianoWords (c .piano)
 
 unfoldable pub cueOf : List ℕ → Cue
-cueOf w = record { kept = eqb (getD w 0 0) 1; position = getD w 1 0; piano = pianoOf (drop 2 w) }
+cueOf w = record { kept = eqb (getD w 0 0) 1; position = getD w 1 0; piano = pianoOf (drop cuePianoOffset w) }
 
 unfoldable pub wordsOf : Session → List ℕ
 wordsOf s = s .t ∷ s .count ∷ (joined timedWords (s .events) ++ (joined cueWords (s .cues) ++ pianoWords (s .piano)))
 
 unfoldable pub sessionOf : List ℕ → Session
 sessionOf w =
-    record { t = getD w 0 0; count = getD w 1 0; events = itemsOf timedOf 4 64 (drop 2 w); cues = itemsOf cueOf 57 4 (drop 258 w); piano = pianoOf (drop 486 w) }
+    record {
+      t = getD w 0 0;
+      count = getD w 1 0;
+      events = itemsOf timedOf timedSize 64 (drop eventsOffset w);
+      cues = itemsOf cueOf cueSize 4 (drop cuesOffset w);
+      piano = pianoOf (drop pianoOffset w);
+    }
 
 -- ---- which words are a session's: those that the session read from them has
 
 unfoldable pub isSession : List ℕ → Bool
-isSession w = eqb (length w) 541 && allBelow 541 (λ i. eqb (getD w i 0) (getD (wordsOf (sessionOf w)) i 0))
+isSession w = eqb (length w) sessionSize && allBelow sessionSize (λ i. eqb (getD w i 0) (getD (wordsOf (sessionOf w)) i 0))
 
 -- what reading w promises
 pub record ReadMeets (w : List ℕ) (r : Read) : Type 0 where
@@ -65,7 +72,7 @@ pub record ReadMeets (w : List ℕ) (r : Read) : Type 0 where
 
 -- what writing s into a slice that held w promises; r is the answer, w′ what the slice holds then
 pub record PutMeets (s : Session) (w : List ℕ) (r : Bool) (w′ : List ℕ) : Type 0 where
-  pub answer : r ≡ eqb (length w) 541
+  pub answer : r ≡ eqb (length w) sessionSize
   pub writes : r ≡ true → w′ ≡ wordsOf s
   pub keeps : r ≡ false → w′ ≡ w
   -- the round trip

@@ -1,21 +1,38 @@
-use Rattle.gingerfile.proofs.Returns.{keeps-whole}
+-- A refused call returns before it writes; else every word is written. Assumes nothing.
+use Rattle.gingerfile.proofs.Returns.{keeps-refused, keeps-written}
 use borrow.Author.Needs.{needs}
 use Rattle.gingerfile.proofs.keep.Statement.{statement}
 use Rattle.gingerfile.proofs.keep.Tie as tie
 
+report-of-requires : tie.Need-report-of-requires
+report-of-requires c κs = search needs
+
+returns : tie.Need-returns
+returns c =
+    let told = c .before .before in
+    let z = told .before .before .args in
+    keeps-refused (z .outcome) (z .words .now) _ (told .report-of .ensures) (c .if1 .taken)
+
 put-session-requires : tie.Need-put-session-requires
 put-session-requires c κs = search needs
-
-reply-of-requires : tie.Need-reply-of-requires
-reply-of-requires c κs = search needs
 
 same-length : tie.Need-same-length
 same-length c = search needs
 
-returns : tie.Need-returns
-returns c =
-    let s = c .before .before .before .before .before .before .before in
-    keeps-whole (s .args .outcome) (s .args .words .now) _ _ _ (s .pre) (c .before .before .before .put-session .ensures) (c .reply-of .ensures)
+returns-2 : tie.Need-returns-2
+returns-2 c =
+    let put = c .before .before in
+    let none = put .before .before .before in
+    let told = none .before .before in
+    let s = told .before .before in
+    keeps-written (s .args .outcome) (s .args .words .now) _ (told .report-of .ensures) (none .if1 .left) _ _ (s .pre) (put .put-session .ensures)
 
 pub keep-spec : {M : Type 1} → statement M
-keep-spec = tie.close (tie.spec put-session-requires reply-of-requires same-length returns)
+keep-spec =
+    tie.close
+    (tie.spec
+    report-of-requires
+    returns
+    put-session-requires
+    same-length
+    returns-2)

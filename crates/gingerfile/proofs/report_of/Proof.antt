@@ -1,3 +1,4 @@
+-- Each case of an answer gives its own numbers. Assumes nothing.
 use Rattle.gingerfile.specs.Crossing.{reportOf}
 use borrow.Author.Needs.{needs}
 use Rattle.gingerfile.proofs.report_of.Statement.{statement}
@@ -45,8 +46,8 @@ returns-6 : tie.Need-returns-6
 unfolding reportOf
 returns-6 c = rw (c .before .answer4 .given .1)
 
-pub reply-of-spec : {M : Type 1} → statement M
-reply-of-spec =
+pub report-of-spec : {M : Type 1} → statement M
+report-of-spec =
     tie.close
     (tie.spec
     enum-known-answer

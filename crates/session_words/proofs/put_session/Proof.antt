@@ -1,3 +1,4 @@
+-- Where the length is right the words are the session's, all of them: `put-whole`. Assumes nothing.
 use Rattle.session_words.proofs.Given.{fit-session}
 use Rattle.session_words.proofs.Pieces.{put-whole, put-none}
 use borrow.Author.Needs.{needs}
@@ -12,9 +13,10 @@ same-length c = search needs
 
 returns : tie.Need-returns
 returns c =
-    let s = c .before .before .before .before .before .before in
+    let long = c .before .before .before .before in
+    let s = long .before .before in
     let z = s .args in
-    put-whole (z .session) (fit-session (z .session) _ (s .good .1 .0)) (z .words .now) _ (c .before .before .before .before .if1 .taken) (c .before .before .put-words .ensures)
+    put-whole (z .session) (fit-session (z .session) _ (s .good .1 .0)) (z .words .now) _ (long .if1 .taken) (c .before .before .put-words .ensures)
 
 returns-2 : tie.Need-returns-2
 returns-2 c =

@@ -5,16 +5,17 @@ use native.Mathlib.Omega.{arith}
 use lib.Dec.{eqb}
 use lib.ListN.{getD}
 use borrow.Author.Needs.{needs}
+use Rattle.session_words.specs.Layout.{sessionSize}
 use Rattle.counting.specs.Below.{allBelow}
 use Rattle.session_words.proofs.Pieces.{all-next}
 use Rattle.session_words.proofs.same.Statement.{statement}
 use Rattle.session_words.proofs.same.Tie as tie
 
 abbrev Inv-loop : tie.InvT-loop
-Inv-loop words others alike₀ i₀ alike i = (i ≤ 541) × (alike ≡ allBelow i (λ k. eqb (getD words k 0) (getD others k 0)))
+Inv-loop words others alike₀ i₀ alike i = (i ≤ sessionSize) × (alike ≡ allBelow i (λ k. eqb (getD words k 0) (getD others k 0)))
 
 abbrev μ-loop : tie.MeasureT-loop
-μ-loop words others alike₀ i₀ alike i = 541 - i
+μ-loop words others alike₀ i₀ alike i = sessionSize - i
 
 loop-holds : tie.Need-loop-holds Inv-loop μ-loop
 unfolding allBelow
@@ -47,7 +48,7 @@ loop-again c =
 returns : tie.Need-returns Inv-loop μ-loop
 returns c =
     let l = c .before .loop in
-    let n : l .i ≡ 541 = omega arith in
+    let n : l .i ≡ sessionSize = omega arith in
     rw n at (l .inv .1)
 
 pub same-spec : {M : Type 1} → statement M

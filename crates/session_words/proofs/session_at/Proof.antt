@@ -1,3 +1,4 @@
+-- What was read is written again and compared, word by word: `read-whole`. Where the length is another, no session is told: `read-none`. Assumes nothing.
 use Rattle.session_words.proofs.Pieces.{read-whole, read-none}
 use borrow.Author.Needs.{needs}
 use Rattle.session_words.proofs.session_at.Statement.{statement}
@@ -23,8 +24,12 @@ same-requires c κs = search needs
 
 returns : tie.Need-returns
 returns c =
-    let z = c .before .before .before .before .before .before .before .before .before .args in
-    read-whole (z .words .now) _ (c .before .before .before .before .before .before .session-in .ensures) _ _ _ (c .before .before .before .before .before .before .before .if1 .taken) (c .before .before .before .before .before .blank .ensures) (c .before .before .before .put-words .ensures) (c .same .ensures)
+    let again = c .before .before .before in
+    let none = again .before .before in
+    let session = none .before in
+    let long = session .before in
+    let z = long .before .before .args in
+    read-whole (z .words .now) _ (session .session-in .ensures) _ _ _ (long .if1 .taken) (none .blank .ensures) (again .put-words .ensures) (c .same .ensures)
 
 blank-requires-2 : tie.Need-blank-requires-2
 blank-requires-2 c κs = search needs
@@ -36,7 +41,9 @@ session-in-requires-2 : tie.Need-session-in-requires-2
 session-in-requires-2 c κs = search needs
 
 returns-2 : tie.Need-returns-2
-returns-2 c = read-none (c .before .before .before .before .before .args .words .now) _ (c .before .before .before .if1 .left)
+returns-2 c =
+    let short = c .before .before .before in
+    read-none (short .before .before .args .words .now) _ (short .if1 .left)
 
 pub session-at-spec : {M : Type 1} → statement M
 session-at-spec =

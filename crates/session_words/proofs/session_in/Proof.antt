@@ -1,3 +1,4 @@
+-- Each part is read from its own place: `session-read`. Assumes nothing.
 use Rattle.session_words.proofs.Pieces.{session-read}
 use borrow.Author.Needs.{needs}
 use Rattle.session_words.proofs.session_in.Statement.{statement}
@@ -20,8 +21,12 @@ piano-at-requires c κs = search needs
 
 returns : tie.Need-returns
 returns c =
-    let z = c .before .before .before .before .before .before .args in
-    session-read (z .words .now) _ _ _ _ _ (c .before .before .before .before .word-at .ensures) (c .before .before .before .word-at2 .ensures) (c .before .before .events-at .ensures) (c .before .cues-at .ensures) (c .piano-at .ensures)
+    let cues = c .before in
+    let events = cues .before in
+    let count = events .before in
+    let t = count .before in
+    let z = t .before .before .args in
+    session-read (z .words .now) _ _ _ _ _ (t .word-at .ensures) (count .word-at2 .ensures) (events .events-at .ensures) (cues .cues-at .ensures) (c .piano-at .ensures)
 
 pub session-in-spec : {M : Type 1} → statement M
 session-in-spec =

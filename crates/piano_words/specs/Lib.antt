@@ -1,3 +1,0 @@
-pub mod Items
-pub mod Piano
-pub mod Back

@@ -1,0 +1,78 @@
+-- The invariant: the first i are read. Assumes nothing.
+use mathlib.Core.Path.{_≡_, refl, ap, _∙_}
+use Prim.Native.Nat.{_+_, _-_, _≤_}
+use native.Mathlib.Omega.{arith}
+use lib.Ieee.{binary64, ofBits}
+use lib.ListN.{length, take, drop, length-set}
+use Rattle.session_words.specs.Items.{itemsOf, items-turn, items-end}
+use Rattle.session_words.specs.Piano.{floatOf}
+use Rattle.session_words.proofs.Runs.{in-run}
+use borrow.Author.Needs.{needs}
+use Rattle.session_words.proofs.piano.floats_at.Statement.{statement}
+use Rattle.session_words.proofs.piano.floats_at.Tie as tie
+
+abbrev Inv-loop : tie.InvT-loop
+Inv-loop words at floats₀ i₀ floats i = (i ≤ 16) × (length floats ≡ 16) × (at + 16 ≤ length words) × (take i floats ≡ itemsOf floatOf 1 i (drop at words))
+
+abbrev μ-loop : tie.MeasureT-loop
+μ-loop words at floats₀ i₀ floats i = 16 - i
+
+loop-holds : tie.Need-loop-holds Inv-loop μ-loop
+unfolding itemsOf
+loop-holds c = (omega arith, refl, c .before .pre, refl)
+
+add-word-at : tie.Need-add-word-at Inv-loop μ-loop
+add-word-at c = search needs
+
+word-at-requires : tie.Need-word-at-requires Inv-loop μ-loop
+word-at-requires c κs = search needs
+
+float-of-requires : tie.Need-float-of-requires Inv-loop μ-loop
+float-of-requires c κs = search needs
+
+mul-floats : tie.Need-mul-floats Inv-loop μ-loop
+mul-floats c = search needs
+
+array-write-floats : tie.Need-array-write-floats Inv-loop μ-loop
+array-write-floats c = search needs
+
+add-i : tie.Need-add-i Inv-loop μ-loop
+add-i c = search needs
+
+loop-less : tie.Need-loop-less Inv-loop μ-loop
+loop-less c = search needs
+
+loop-again : tie.Need-loop-again Inv-loop μ-loop
+loop-again c =
+    let z = c .before .before .before .before .before .args in
+    let l = c .before .before .before .loop in (
+      omega arith,
+      simp length-set (l .inv .1),
+      l .inv .2,
+      items-turn floatOf 1 (l .i) (drop (z .at) (z .words .now)) (l .floats) _ (omega arith) (l .inv .3)
+          (c .float-of .ensures ∙ ap (ofBits binary64) (in-run (z .words .now) (z .at) (l .i) _ (c .before .word-at .ensures))),
+    )
+
+returns : tie.Need-returns Inv-loop μ-loop
+returns c =
+    let l = c .before .loop in
+    let z = c .before .before .before .args in
+    let n : l .i ≡ 16 = omega arith in
+    items-end floatOf 1 16 (drop (z .at) (z .words .now)) (l .floats) (l .inv .1) (rw n at (l .inv .3))
+
+pub floats-at-spec : {M : Type 1} → statement M
+floats-at-spec =
+    tie.close
+    (tie.spec
+    Inv-loop
+    μ-loop
+    loop-holds
+    add-word-at
+    word-at-requires
+    float-of-requires
+    mul-floats
+    array-write-floats
+    add-i
+    loop-less
+    loop-again
+    returns)

@@ -1,0 +1,157 @@
+-- Every piano is read back from its words. `FitPiano` says what every value of the record's type has and a definition alone cannot see: its floats are f64s, its arrays as long as
+-- declared. Assumes nothing.
+use mathlib.Core.Path.{_≡_, refl, sym, ap, _∙_}
+use mathlib.Core.Bool.{Bool, true, false, cond}
+use mathlib.Core.List.{List, [], _∷_, _++_, append-assoc}
+use Prim.Native.Nat.{ℕ, _+_}
+use native.Mathlib.Omega.{arith}
+use lib.Dec.{T, eqb}
+use lib.Ieee.{Float, binary64, fits, ofBits, toBits}
+use lib.Ieee.Bits.{ofBits-toBits, ofBits-fits}
+use lib.ListN.{length, getD, drop, length-append}
+use lib.Seq.{drop-at, drop-drop}
+use Rattle.points.specs.declared.HammerState.{HammerState}
+use Rattle.points.specs.declared.HammerState.the-variants.{Resting, Flying}
+use Rattle.sample.specs.declared.Motion.{Motion}
+use Rattle.score.specs.declared.Piano.{Piano}
+use Rattle.session_words.specs.Layout.{hammerSize, motionSize, peakOffset, handDampedOffset, dampersOffset, pedalOffset, motionOffset, pianoSize}
+use Rattle.session_words.specs.Items.{joined, itemsOf, AllOf, joined-length, items-length, items-back, all-items}
+use Rattle.session_words.specs.Piano.{bitOf, flagWord, flagOf, floatWord, floatOf, hammerWords, hammerFrom, motionWords, motionOf, pianoWords, pianoOf}
+
+abbrev pub Fit : Float → Type 0
+Fit x = T (fits binary64 x)
+
+-- nothing is asked
+abbrev pub Any : {A : Type 0} → A → Type 0
+Any x = Unit {0}
+
+unfoldable pub FitHammer : HammerState → Type 0
+FitHammer Resting = Unit {0}
+FitHammer (Flying k y v) = Fit y × Fit v
+
+pub record FitMotion (m : Motion) : Type 0 where
+  pub hammer : FitHammer (m .hammer)
+  pub peak : Fit (m .«peak_force»)
+
+pub record FitPiano (p : Piano) : Type 0 where
+  pub heldLong : length (p .held) ≡ 16
+  pub handLong : length (p .«hand_damped») ≡ 16
+  pub damperLong : length (p .«damper_r») ≡ 16
+  pub dampers : AllOf Fit (p .«damper_r»)
+  pub motion : FitMotion (p .motion)
+
+pub all-any : {A : Type 0} (xs : List A) → AllOf Any xs
+unfolding AllOf
+all-any [] = tt
+all-any (x ∷ xs) = (tt, all-any xs)
+
+-- ---- the pieces
+
+pub flag-back : (b : Bool) → Any b → (r : List ℕ) → flagOf (flagWord b ++ r) ≡ b
+flag-back true h r = refl
+flag-back false h r = refl
+
+pub float-back : (x : Float) → Fit x → (r : List ℕ) → floatOf (floatWord x ++ r) ≡ x
+float-back x h r = ofBits-toBits binary64 x h
+
+pub flags-length : (xs : List Bool) → length (joined flagWord xs) ≡ length xs
+flags-length xs = joined-length Any flagWord 1 (λ x h. refl) xs (all-any xs) ∙ omega arith
+
+pub floats-length : (xs : List Float) → length (joined floatWord xs) ≡ length xs
+floats-length xs = joined-length Any floatWord 1 (λ x h. refl) xs (all-any xs) ∙ omega arith
+
+pub hammer-length : (h : HammerState) → length (hammerWords h) ≡ hammerSize
+unfolding hammerWords
+hammer-length Resting = refl
+hammer-length (Flying k y v) = refl
+
+motion-length : (m : Motion) → length (motionWords m) ≡ motionSize
+unfolding motionWords
+motion-length m = length-append (hammerWords (m .hammer)) _ ∙ ap (λ (n : ℕ). n + 2) (hammer-length (m .hammer))
+
+module _ (k : ℕ) (p : Float) (r : List ℕ) (fp : Fit p) where
+  motion-from : (h : HammerState) → FitHammer h → motionOf ((hammerWords h ++ (k ∷ toBits binary64 p ∷ [])) ++ r) ≡ record { hammer = h; «contact_samples» = k; «peak_force» = p }
+  unfolding motionOf hammerFrom hammerWords FitHammer
+  motion-from Resting f = rw (ofBits-toBits binary64 p fp)
+  motion-from (Flying i y v) f = rw (ofBits-toBits binary64 p fp, ofBits-toBits binary64 y (f .0), ofBits-toBits binary64 v (f .1))
+
+motion-back : (m : Motion) → FitMotion m → (r : List ℕ) → motionOf (motionWords m ++ r) ≡ m
+unfolding motionWords
+motion-back m f r = motion-from (m .«contact_samples») (m .«peak_force») r (f .peak) (m .hammer) (f .hammer)
+
+-- ---- the piano
+
+module _ (p : Piano) (f : FitPiano p) where
+  pub piano-length : length (pianoWords p) ≡ pianoSize
+  unfolding pianoWords
+  piano-length =
+      let x1 = joined flagWord (p .held) in
+      let x2 = joined flagWord (p .«hand_damped») in
+      let x3 = joined floatWord (p .«damper_r») in
+      let x4 = bitOf (p .pedal) ∷ motionWords (p .motion) in
+      let n1 = flags-length (p .held) in
+      let n2 = flags-length (p .«hand_damped») in
+      let n3 = floats-length (p .«damper_r») in
+      let n4 = motion-length (p .motion) in
+      let m1 = f .heldLong in
+      let m2 = f .handLong in
+      let m3 = f .damperLong in
+      let l3 = length-append x3 x4 in
+      let l2 = length-append x2 (x3 ++ x4) in
+      let l1 = length-append x1 (x2 ++ (x3 ++ x4)) in
+      omega arith
+
+  -- THE LAW: a piano is read back from its words
+  pub piano-back : (r : List ℕ) → pianoOf (pianoWords p ++ r) ≡ p
+  unfolding pianoOf pianoWords
+  piano-back r =
+      let x1 = joined flagWord (p .held) in
+      let x2 = joined flagWord (p .«hand_damped») in
+      let x3 = joined floatWord (p .«damper_r») in
+      let m = motionWords (p .motion) in
+      let b = bitOf (p .pedal) in
+      let t3 = b ∷ (m ++ r) in
+      let t2 = x3 ++ t3 in
+      let t1 = x2 ++ t2 in
+      let w = (x1 ++ (x2 ++ (x3 ++ (b ∷ m)))) ++ r in
+      let e0 : w ≡ x1 ++ t1 =
+      append-assoc x1 (x2 ++ (x3 ++ (b ∷ m))) r
+      ∙ ap (λ (l : List ℕ). x1 ++ l) (append-assoc x2 (x3 ++ (b ∷ m)) r ∙ ap (λ (l : List ℕ). x2 ++ l) (append-assoc x3 (b ∷ m) r)) in
+      let e1 : drop handDampedOffset w ≡ t1 = ap (drop 16) e0 ∙ drop-at x1 t1 16 (flags-length (p .held) ∙ f .heldLong) in
+      let e2 : drop dampersOffset w ≡ t2 = sym (drop-drop 16 handDampedOffset w) ∙ ap (drop 16) e1 ∙ drop-at x2 t2 16 (flags-length (p .«hand_damped») ∙ f .handLong) in
+      let e3 : drop pedalOffset w ≡ t3 = sym (drop-drop 16 dampersOffset w) ∙ ap (drop 16) e2 ∙ drop-at x3 t3 16 (floats-length (p .«damper_r») ∙ f .damperLong) in
+      let e4 : drop motionOffset w ≡ m ++ r = sym (drop-drop 1 pedalOffset w) ∙ ap (drop 1) e3 in
+      let h1 : itemsOf flagOf 1 16 w ≡ p .held =
+      ap (itemsOf flagOf 1 16) e0 ∙ ap (λ (n : ℕ). itemsOf flagOf 1 n (x1 ++ t1)) (sym (f .heldLong))
+      ∙ items-back Any flagWord 1 (λ x h. refl) flagOf flag-back (p .held) (all-any (p .held)) t1 in
+      let h2 : itemsOf flagOf 1 16 (drop handDampedOffset w) ≡ p .«hand_damped» =
+      ap (itemsOf flagOf 1 16) e1 ∙ ap (λ (n : ℕ). itemsOf flagOf 1 n (x2 ++ t2)) (sym (f .handLong))
+      ∙ items-back Any flagWord 1 (λ x h. refl) flagOf flag-back (p .«hand_damped») (all-any (p .«hand_damped»)) t2 in
+      let h3 : itemsOf floatOf 1 16 (drop dampersOffset w) ≡ p .«damper_r» =
+      ap (itemsOf floatOf 1 16) e2 ∙ ap (λ (n : ℕ). itemsOf floatOf 1 n (x3 ++ t3)) (sym (f .damperLong))
+      ∙ items-back Fit floatWord 1 (λ x h. refl) floatOf float-back (p .«damper_r») (f .dampers) t3 in
+      let h4 : flagOf (drop pedalOffset w) ≡ p .pedal = ap flagOf e3 ∙ flag-back (p .pedal) tt (m ++ r) in
+      let h5 : motionOf (drop motionOffset w) ≡ p .motion = ap motionOf e4 ∙ motion-back (p .motion) (f .motion) r in
+      rw (h1, h2, h3, h4, h5)
+
+-- ---- whatever the words are, what is read from them is a value of the type
+
+fit-hammer-of : (t : Bool) (k a b : ℕ) → FitHammer (cond t (Flying k (ofBits binary64 a) (ofBits binary64 b)) Resting)
+unfolding FitHammer
+fit-hammer-of true k a b = (ofBits-fits binary64 a, ofBits-fits binary64 b)
+fit-hammer-of false k a b = tt
+
+pub fit-piano-of : (w : List ℕ) → FitPiano (pianoOf w)
+unfolding pianoOf motionOf hammerFrom
+fit-piano-of w =
+    let m = drop motionOffset w in
+    record {
+      heldLong = items-length flagOf 1 16 w;
+      handLong = items-length flagOf 1 16 (drop handDampedOffset w);
+      damperLong = items-length floatOf 1 16 (drop dampersOffset w);
+      dampers = all-items Fit floatOf (λ v. ofBits-fits binary64 (getD v 0 0)) 1 16 (drop dampersOffset w);
+      motion = record {
+        hammer = fit-hammer-of (eqb (getD m 0 0) 1) (getD m 1 0) (getD m 2 0) (getD m 3 0);
+        peak = ofBits-fits binary64 (getD m peakOffset 0);
+      };
+    }
