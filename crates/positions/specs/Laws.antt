@@ -26,7 +26,7 @@ true-or-false b e f = absurd (let z : _≡_ {A = ℕ} 0 1 = cc in omega arith)
 -- ---- counting
 
 -- one member more
-pub count-cons : (f : ℕ → Bool) (x : ℕ) (l : List ℕ) → count f (x ∷ l) ≡ cond (f x) (suc (count f l)) (count f l)
+count-cons : (f : ℕ → Bool) (x : ℕ) (l : List ℕ) → count f (x ∷ l) ≡ cond (f x) (suc (count f l)) (count f l)
 unfolding count
 count-cons f x l = refl
 
@@ -62,15 +62,6 @@ count-others x (y ∷ ys) = go (eqb x y) (count-others x ys)
         → cond b (suc (count (eqb x) ys)) (count (eqb x) ys) + cond (not b) (suc (others x ys)) (others x ys) ≡ suc (length ys)
     go true e = omega arith
     go false e = omega arith
-
-pub count-le : (f : ℕ → Bool) (l : List ℕ) → count f l ≤ length l
-unfolding count
-count-le f [] = omega arith
-count-le f (x ∷ xs) = go (f x) (count-le f xs)
-  where
-    go : (b : Bool) → count f xs ≤ length xs → cond b (suc (count f xs)) (count f xs) ≤ suc (length xs)
-    go true h = omega arith
-    go false h = omega arith
 
 -- ---- membership
 

@@ -9,12 +9,10 @@ use borrow.Author.Tests.{lt-ltb, ltb-false, ltb-true}
 use lib.ListN.{length, take, drop, length-append, length-drop}
 use lib.Seq.{take-at, length-take-le}
 use Rattle.score.specs.declared.TimedEvent.{TimedEvent}
-use Rattle.positions.specs.Positions.{count, isIn}
+use Rattle.positions.specs.Positions.{count, isIn, others}
 use Rattle.positions.specs.Laws.{count-others}
 use Rattle.score_edits.specs.Edits.{placed, removed}
 use Rattle.score_edits.specs.Laws.{length-placed, length-removed}
-use Rattle.machine.specs.Refusals.{cueRefusal}
-use Rattle.machine.specs.Laws.{cue-passed}
 use Rattle.session_cues.specs.declared.Cue.{Cue}
 use Rattle.session_cues.specs.Cues.{keptOf, freeSlot}
 use Rattle.session_cues.specs.Laws.{free-slot-full}
@@ -51,8 +49,8 @@ module _ (s : Session) (index : ℕ) (there : index < s .count) (few : s .count 
       omega (arith, length-append (removed (scoreOf s) index) (drop (s .count - 1) (s .events)), length-drop (s .count - 1) (s .events), removed-size, long, few, there)
 
 -- a cue that is not kept yet and not refused finds a free slot
-pub free-slot-there : (t : ℕ) (cues : List Cue) → length cues ≡ 4 → isIn t (keptOf cues) ≡ false → cueRefusal t (keptOf cues) ≡ 0 → freeSlot cues < 4
-free-slot-there t cues four absent z =
+pub free-slot-there : (t : ℕ) (cues : List Cue) → length cues ≡ 4 → isIn t (keptOf cues) ≡ false → others t (keptOf cues) < 4 → freeSlot cues < 4
+free-slot-there t cues four absent few =
     let none = ltb-false 0 (count (eqb t) (keptOf cues)) absent in
-    let less : length (keptOf cues) < length cues = omega (arith, four, cue-passed t (keptOf cues) z, count-others t (keptOf cues), none) in
+    let less : length (keptOf cues) < length cues = omega (arith, four, few, count-others t (keptOf cues), none) in
     omega (arith, four, ltb-true (freeSlot cues) (length cues) (free-slot-full cues ∙ lt-ltb (length (keptOf cues)) (length cues) less))

@@ -12,18 +12,16 @@ use Rattle.instrument.specs.Work.{partCells}
 use Rattle.score.specs.declared.TimedEvent.{TimedEvent}
 use Rattle.render.specs.Render.{silence, run}
 use Rattle.positions.specs.Positions.{isIn}
-use Rattle.machine.specs.Refusals.{cueRefusal}
 use Rattle.machine.specs.Machine.{Call, Reply, startOf, settled}
-use Rattle.machine.specs.Laws.{else-zero}
 use Rattle.session_cues.specs.Cues.{freeSlot, dropAbove}
 use Rattle.session_record.specs.declared.Session.{Session}
-use Rattle.session_record.specs.Record.{scoreOf, openRefusal, recordRefusal}
-use Rattle.session_record.specs.Laws.{Passed, open-passed}
+use Rattle.session_record.specs.Record.{scoreOf, openRefusal}
+use Rattle.session_record.specs.Laws.{Passed, CuePassed, open-passed, passed-play, passed-cue, passed-go, passed-insert, passed-remove}
 use Rattle.session.specs.declared.Outcome.{Outcome}
 use Rattle.session.specs.Calls.{keptBy, stateNow, heldAt, refusedWith, OpenMeets, Cues, Edits}
 use Rattle.session.specs.Laws.{silent-length, held-length}
 use Rattle.session_theorem.specs.Runs.{CallMeets, Runs}
-use Rattle.session_theorem.specs.Memory.{accepted-passes, run-cells, front-beyond, slot-beyond}
+use Rattle.session_theorem.specs.Memory.{run-cells, front-beyond, slot-beyond}
 use Rattle.session_theorem.specs.Arrays.{free-slot-there}
 
 -- the cells beyond the five parts are as they were
@@ -53,8 +51,8 @@ module _ (i : Instrument) (s : Session) (work : List Float) (four : length (s .c
   by-refusal zero r work′ refuses accepts = accepts refl
   by-refusal (suc n) r work′ refuses accepts = let k = refuses (λ z. omega arith) in rw (k .0, k .1) (record { beyond = refl; four = four })
 
-  cue-leaves : (r : Outcome) (work′ : List Float) → Passed i s (length work) → cueRefusal (s .t) (keptBy s) ≡ 0 → Cues i s work r work′ → Leaves i work r work′
-  cue-leaves r work′ p z d = go (isIn (s .t) (keptBy s)) refl
+  cue-leaves : (r : Outcome) (work′ : List Float) → CuePassed i s (length work) → Cues i s work r work′ → Leaves i work r work′
+  cue-leaves r work′ p d = go (isIn (s .t) (keptBy s)) refl
     where
       go : (b : Bool) → isIn (s .t) (keptBy s) ≡ b → Leaves i work r work′
       go true e = let k = d .again e in rw (k .0, k .1) (record { beyond = refl; four = four })
@@ -62,7 +60,8 @@ module _ (i : Instrument) (s : Session) (work : List Float) (four : length (s .c
           let k = d .adds e in
           let slot = freeSlot (s .cues) in
           record {
-            beyond = slot-beyond W slot (take W work) work work′ (k .1) (length-take-le W work (omega (arith, p .room))) (free-slot-there (s .t) (s .cues) four e z) (p .room);
+            beyond = slot-beyond W slot (take W work) work work′ (k .1) (length-take-le W work (omega (arith, p .records .room)))
+                (free-slot-there (s .t) (s .cues) four e (p .free)) (p .records .room);
             four = rw (k .0) (length-set (s .cues) slot _ ∙ four);
           }
 
@@ -79,19 +78,19 @@ module _ (i : Instrument) (s : Session) (work : List Float) (four : length (s .c
       by-refusal _ r work′ (λ z. let k = h .2 .refuses z in (k .0, k .1))
       (λ z.
       let d = h .2 .accepts z in
-      let p = accepted-passes i s (length work) _ z in
+      let p = passed-play i s (length work) scratch (length out) (length trace) z .records in
       let size = run-cells i (p .sound) (scoreOf s) (s .t) (length out) (stateNow i s work) (length-take-le W work (omega (arith, p .room))) in
       record {
         beyond = front-beyond W (run i (scoreOf s) (s .t) (length out) (stateNow i s work) .cells) work work′ (d .memory) size (p .room);
         four = rw (d .session) four;
       })
   call-leaves Call.cue out trace r work′ out′ trace′ h =
-      by-refusal _ r work′ (h .refuses) (λ z. cue-leaves r work′ (accepted-passes i s (length work) _ z) (else-zero (recordRefusal i s (length work)) _ z .1) (h .accepts z))
+      by-refusal _ r work′ (h .refuses) (λ z. cue-leaves r work′ (passed-cue i s (length work) z) (h .accepts z))
   call-leaves (Call.go scratch q) out trace r work′ out′ trace′ h =
       by-refusal _ r work′ (h .refuses)
       (λ z.
       let d = h .accepts z in
-      let p = accepted-passes i s (length work) _ z in
+      let p = passed-go i s (length work) scratch q z .records in
       let start = startOf (s .t) (keptBy s) q in
       let size = run-cells i (p .sound) (scoreOf s) start (q - start) (heldAt i s work start) (held-length i s work start four (p .sound) (p .room)) in
       record {
@@ -99,9 +98,9 @@ module _ (i : Instrument) (s : Session) (work : List Float) (four : length (s .c
         four = rw (d .session) four;
       })
   call-leaves (Call.insert e) out trace r work′ out′ trace′ h =
-      by-refusal _ r work′ (h .refuses) (λ z. edit-leaves (e .position) _ _ r work′ (accepted-passes i s (length work) _ z) (h .accepts z))
+      by-refusal _ r work′ (h .refuses) (λ z. edit-leaves (e .position) _ _ r work′ (passed-insert i s (length work) e z .records) (h .accepts z))
   call-leaves (Call.remove index) out trace r work′ out′ trace′ h =
-      by-refusal _ r work′ (h .refuses) (λ z. edit-leaves _ _ _ r work′ (accepted-passes i s (length work) _ z) (h .accepts z))
+      by-refusal _ r work′ (h .refuses) (λ z. edit-leaves _ _ _ r work′ (passed-remove i s (length work) index z .records) (h .accepts z))
 
 -- whatever is called, from any session
 pub beyond-stays : (i : Instrument) {s s′ : Session} {work work′ : List Float} {cs : List Call} {rs : List Reply}

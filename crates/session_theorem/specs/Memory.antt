@@ -16,16 +16,7 @@ use Rattle.score.specs.Events.{State}
 use Rattle.render.specs.Render.{run}
 use Rattle.render.specs.Laws.{run-length}
 use Rattle.render.specs.Work.{cells-are}
-use Rattle.machine.specs.Refusals.{orElse}
-use Rattle.machine.specs.Laws.{else-zero}
-use Rattle.session_record.specs.declared.Session.{Session}
-use Rattle.session_record.specs.Record.{recordRefusal}
-use Rattle.session_record.specs.Laws.{Passed, passed}
 use Rattle.session.specs.Laws.{part-order, slot-fits, slot-past}
-
--- an accepted call: 7 and 8 did not come
-pub accepted-passes : (i : Instrument) (s : Session) (cells n : ℕ) → orElse (recordRefusal i s cells) n ≡ 0 → Passed i s cells
-accepted-passes i s cells n z = passed i s cells (else-zero (recordRefusal i s cells) n z .0)
 
 -- a run keeps a part's W cells
 pub run-cells : (i : Instrument) → valid i ≡ true → (score : List TimedEvent) (t n : ℕ) (st : State) → length (st .cells) ≡ partCells i

@@ -11,6 +11,7 @@ use lib.Ieee.{Float}
 use lib.ListN.{length, take, drop, getD, set, length-set, length-map, List·getD-map}
 use lib.Seq.{take-at, length-take-le, getD-set-other}
 use Rattle.cells.specs.Splice.{part, splice}
+use Rattle.counting.specs.Meets.{Meets}
 use Rattle.instrument.specs.declared.Instrument.{Instrument}
 use Rattle.instrument.specs.Work.{partCells}
 use Rattle.score.specs.declared.TimedEvent.{TimedEvent}
@@ -20,15 +21,13 @@ use Rattle.render.specs.Render.{silence, run, forces}
 use Rattle.positions.specs.Positions.{isIn}
 use Rattle.positions.specs.Laws.{and-true, true-or-false}
 use Rattle.score_edits.specs.Edits.{placed, removed}
-use Rattle.machine.specs.Refusals.{cueRefusal}
 use Rattle.machine.specs.Machine.{Call, Reply, startOf, settled}
-use Rattle.machine.specs.Laws.{else-zero, insert-passed, remove-passed}
 use Rattle.session_cues.specs.declared.Cue.{Cue}
 use Rattle.session_cues.specs.Cues.{keptOf, standsAt, slotAt, freeSlot, dropAbove, soundCue, soundCues}
 use Rattle.session_cues.specs.Laws.{slot-in, slot-kept}
 use Rattle.session_record.specs.declared.Session.{Session}
 use Rattle.session_record.specs.Record.{scoreOf, soundSession, recordRefusal}
-use Rattle.session_record.specs.Laws.{Passed}
+use Rattle.session_record.specs.Laws.{Passed, CuePassed, passed-play, passed-cue, passed-go, passed-insert, passed-remove}
 use Rattle.session.specs.declared.Outcome.{Outcome}
 use Rattle.session.specs.Calls.{keptBy, emptyCue, cueAt, stateNow, stateCue, heldAt, refusedWith, Plays, PlayMeets, Cues, CueMeets, Goes, GoMeets, Edits, InsertMeets, RemoveMeets}
 use Rattle.session.specs.Laws.{get-any, held-length}
@@ -36,7 +35,7 @@ use Rattle.energies.specs.declared.EnergiesAnswer.{EnergiesAnswer}
 use Rattle.energies.specs.Energy.{noEnergiesFor, EnergiesMeet}
 use Rattle.energies.specs.Laws.{first-part-decides}
 use Rattle.session_theorem.specs.Runs.{replyOf, CallMeets, Runs}
-use Rattle.session_theorem.specs.Memory.{front-now, front-cue, front-length, slot-now, slot-new, slot-other, slot-length, accepted-passes, run-cells}
+use Rattle.session_theorem.specs.Memory.{front-now, front-cue, front-length, slot-now, slot-new, slot-other, slot-length, run-cells}
 use Rattle.session_theorem.specs.Arrays.{placed-score, placed-long, removed-score, removed-long, free-slot-there}
 
 -- slot by slot: the same cue is kept in both, or none in either
@@ -221,10 +220,9 @@ pub record SameOutcome (i : Instrument) (r : Outcome) (work out trace : List Flo
   pub after : Alike i (r .session) work (r′ .session) work′
 
 -- a call by its number, the same for both: either both are refused or both are accepted
-by-number : {R R′ P : Type 0} (n n′ : ℕ) → ((n ≡ 0 → ⊥) → R) → ((n′ ≡ 0 → ⊥) → R′) → n ≡ n′ → (n ≡ n′ → R → R′ → P)
-    → (n ≡ 0 → n′ ≡ 0 → P) → P
-by-number zero n′ h h′ e refuses accepts = accepts refl (sym e)
-by-number (suc n) n′ h h′ e refuses accepts = refuses e (h (λ z. omega arith)) (h′ (λ z. omega (arith, z, e)))
+by-number : {R R′ : ℕ → Type 0} {A A′ P : Type 0} (n n′ : ℕ) → Meets n R A → Meets n′ R′ A′ → n ≡ n′ → (n ≡ n′ → R n → R′ n′ → P) → (n ≡ 0 → A → A′ → P) → P
+by-number zero n′ h h′ e refuses accepts = accepts refl (h .accepts refl) (h′ .accepts (sym e))
+by-number (suc n) n′ h h′ e refuses accepts = refuses e (h .refuses (λ z. omega arith)) (h′ .refuses (λ z. omega (arith, z, e)))
 
 module _ (i : Instrument) (s : Session) (work : List Float) (s′ : Session) (work′ : List Float) (a : Alike i s work s′ work′) where
   abbrev W : ℕ
@@ -286,19 +284,19 @@ module _ (i : Instrument) (s : Session) (work : List Float) (s′ : Session) (wo
 
     pub same-play : SameOutcome i r left out₁ trace₁ r′ left′ out₂ trace₂
     same-play =
-        by-number _ _ (h .refuses) (h′ .refuses) (rw (same-refusal i s work s′ work′ a, a .position, outs, traces) refl)
+        by-number _ _ h h′ (rw (same-refusal i s work s′ work′ a, a .position, outs, traces) refl)
         (λ e k k′. refused _ _ r r′ left left′ out₁ trace₁ out₂ trace₂ e (k .0, k .1) (k′ .0, k′ .1))
-        (λ z z′. play-accepted (h .accepts z) (h′ .accepts z′) (accepted-passes i s (length work) _ z))
+        (λ z d d′. play-accepted d d′ (passed-play i s (length work) scratch (length out) (length trace) z .records))
 
   -- ---- cue
   module _ (out trace out₀ trace₀ : List Float) (r r′ : Outcome) (left left′ : List Float) (h : CueMeets i s work r left) (h′ : CueMeets i s′ work′ r′ left′) where
-    cue-accepted : (b : Bool) → isIn (s .t) (keptBy s) ≡ b → Cues i s work r left → Cues i s′ work′ r′ left′ → Passed i s (length work) → cueRefusal (s .t) (keptBy s) ≡ 0
+    cue-accepted : (b : Bool) → isIn (s .t) (keptBy s) ≡ b → Cues i s work r left → Cues i s′ work′ r′ left′ → CuePassed i s (length work)
         → SameOutcome i r left out trace r′ left′ out₀ trace₀
-    cue-accepted true e d d′ p z =
+    cue-accepted true e d d′ p =
         let k = d .again e in
         let k′ = d′ .again (rw (sym (a .position), sym (same-cues i s work s′ work′ a)) e) in
         record { answer = d .answer ∙ sym (d′ .answer); reply = rw (d .answer, d′ .answer) refl; after = rw (k .0, k .1, k′ .0, k′ .1) a }
-    cue-accepted false e d d′ p z =
+    cue-accepted false e d d′ p =
         let k = d .adds e in
         let k′ = d′ .adds (rw (sym (a .position), sym (same-cues i s work s′ work′ a)) e) in
         let slot = freeSlot (s .cues) in
@@ -313,7 +311,7 @@ module _ (i : Instrument) (s : Session) (work : List Float) (s′ : Session) (wo
                 score = a .score;
                 cues = rw (sym (same-free (a .cues)), sym (a .position), sym (a .piano)) (set-same slot new (a .cues));
                 piano = a .piano;
-                memory = slot-same W (s .cues) work work′ left left′ (a .memory) (p .room) slot new (free-slot-there (s .t) (s .cues) (a .four) e z) (k .1)
+                memory = slot-same W (s .cues) work work′ left left′ (a .memory) (p .records .room) slot new (free-slot-there (s .t) (s .cues) (a .four) e (p .free)) (k .1)
                     (rw (sym (same-free (a .cues))) at (k′ .1));
                 long = a .long;
                 long′ = a .long′;
@@ -323,9 +321,9 @@ module _ (i : Instrument) (s : Session) (work : List Float) (s′ : Session) (wo
 
     pub same-cue : SameOutcome i r left out trace r′ left′ out₀ trace₀
     same-cue =
-        by-number _ _ (h .refuses) (h′ .refuses) (rw (same-refusal i s work s′ work′ a, a .position, same-cues i s work s′ work′ a) refl)
+        by-number _ _ h h′ (rw (same-refusal i s work s′ work′ a, a .position, same-cues i s work s′ work′ a) refl)
         (λ e k k′. refused _ _ r r′ left left′ out trace out₀ trace₀ e k k′)
-        (λ z z′. cue-accepted (isIn (s .t) (keptBy s)) refl (h .accepts z) (h′ .accepts z′) (accepted-passes i s (length work) _ z) (else-zero (recordRefusal i s (length work)) _ z .1))
+        (λ z d d′. cue-accepted (isIn (s .t) (keptBy s)) refl d d′ (passed-cue i s (length work) z))
 
   -- ---- go
   module _ (scratch q : ℕ) (out trace out₀ trace₀ : List Float) (r r′ : Outcome) (left left′ : List Float)
@@ -362,9 +360,9 @@ module _ (i : Instrument) (s : Session) (work : List Float) (s′ : Session) (wo
 
     pub same-go : SameOutcome i r left out trace r′ left′ out₀ trace₀
     same-go =
-        by-number _ _ (h .refuses) (h′ .refuses) (rw (same-refusal i s work s′ work′ a, same-start) refl)
+        by-number _ _ h h′ (rw (same-refusal i s work s′ work′ a, same-start) refl)
         (λ e k k′. refused _ _ r r′ left left′ out trace out₀ trace₀ e k k′)
-        (λ z z′. go-accepted (h .accepts z) (h′ .accepts z′) (accepted-passes i s (length work) _ z))
+        (λ z d d′. go-accepted d d′ (passed-go i s (length work) scratch q z .records))
 
   -- ---- insert and remove: an edit at q that leaves the same score in 64 places
   module _ (q number number′ : ℕ) (events events′ : List TimedEvent) (out trace out₀ trace₀ : List Float) (r r′ : Outcome) (left left′ : List Float) where
@@ -402,12 +400,13 @@ module _ (i : Instrument) (s : Session) (work : List Float) (s′ : Session) (wo
       (h : InsertMeets i s work e r left) (h′ : InsertMeets i s′ work′ e r′ left′) where
     pub same-insert : SameOutcome i r left out trace r′ left′ out₀ trace₀
     same-insert =
-        by-number _ _ (h .refuses) (h′ .refuses) (rw (same-refusal i s work s′ work′ a, a .number) refl)
+        by-number _ _ h h′ (rw (same-refusal i s work s′ work′ a, a .number) refl)
         (λ e k k′. refused _ _ r r′ left left′ out trace out₀ trace₀ e k k′)
-        (λ z z′.
-        let few : s .count < 64 = insert-passed (s .count) e (else-zero (recordRefusal i s (length work)) _ z .1) .1 in
+        (λ z d d′.
+        let p = passed-insert i s (length work) e z in
+        let few = p .place in
         let few′ : s′ .count < 64 = omega (arith, few, a .number) in
-        edit-accepted (e .position) _ _ _ _ out trace out₀ trace₀ r r′ left left′ (h .accepts z) (h′ .accepts z′) (accepted-passes i s (length work) _ z) (ap (λ n. n + 1) (a .number))
+        edit-accepted (e .position) _ _ _ _ out trace out₀ trace₀ r r′ left left′ d d′ (p .records) (ap (λ n. n + 1) (a .number))
         (placed-score s e few (a .long) ∙ ap (λ l. placed l e) (a .score) ∙ sym (placed-score s′ e few′ (a .long′)))
         (placed-long s e few (a .long)) (placed-long s′ e few′ (a .long′)))
 
@@ -415,15 +414,16 @@ module _ (i : Instrument) (s : Session) (work : List Float) (s′ : Session) (wo
       (h : RemoveMeets i s work index r left) (h′ : RemoveMeets i s′ work′ index r′ left′) where
     pub same-remove : SameOutcome i r left out trace r′ left′ out₀ trace₀
     same-remove =
-        by-number _ _ (h .refuses) (h′ .refuses) (rw (same-refusal i s work s′ work′ a, a .number) refl)
+        by-number _ _ h h′ (rw (same-refusal i s work s′ work′ a, a .number) refl)
         (λ e k k′. refused _ _ r r′ left left′ out trace out₀ trace₀ e k k′)
-        (λ z z′.
-        let p = accepted-passes i s (length work) _ z in
-        let there : index < s .count = remove-passed (s .count) index (else-zero (recordRefusal i s (length work)) _ z .1) in
+        (λ z d d′.
+        let passed = passed-remove i s (length work) index z in
+        let p = passed .records in
+        let there = passed .there in
         let there′ : index < s′ .count = omega (arith, there, a .number) in
         let few′ : s′ .count ≤ 64 = omega (arith, p .few, a .number) in
         let at-q : getD (scoreOf s) index noEvent .position ≡ getD (scoreOf s′) index noEvent .position = ap (λ l. getD l index noEvent .position) (a .score) in
-        edit-accepted (getD (scoreOf s′) index noEvent .position) _ _ _ _ out trace out₀ trace₀ r r′ left left′ (rw at-q at (h .accepts z)) (h′ .accepts z′) p
+        edit-accepted (getD (scoreOf s′) index noEvent .position) _ _ _ _ out trace out₀ trace₀ r r′ left left′ (rw at-q at d) d′ p
         (ap (λ n. n - 1) (a .number))
         (removed-score s index there (p .few) (a .long) ∙ ap (λ l. removed l index) (a .score) ∙ sym (removed-score s′ index there′ few′ (a .long′)))
         (removed-long s index there (p .few) (a .long)) (removed-long s′ index there′ few′ (a .long′)))

@@ -19,7 +19,7 @@ use Rattle.score.specs.Events.{State}
 use Rattle.score.specs.Score.{noEvent, eventsAt}
 use Rattle.render.specs.Render.{run, samples, forces, silence, renderState, renderSamples, renderForces}
 use Rattle.render.specs.Laws.{samples-length, render-then, render-local, render-samples, render-forces}
-use Rattle.positions.specs.Positions.{count, isIn, upTo, greatest}
+use Rattle.positions.specs.Positions.{others, count, isIn, upTo, greatest}
 use Rattle.positions.specs.Laws.{and-true, same-cons, same-upTo, in-front, in-cons, in-same, in-upTo, greatest-same, greatest-member, greatest-upTo}
 use Rattle.score_edits.specs.Edits.{placed, removed}
 use Rattle.score_edits.specs.Laws.{placed-before, removed-before}
@@ -30,7 +30,8 @@ use Rattle.session_cues.specs.declared.Cue.{Cue}
 use Rattle.session_cues.specs.Cues.{freeSlot, dropAbove}
 use Rattle.session_cues.specs.Laws.{free-slot-free, kept-set, kept-drop}
 use Rattle.session_record.specs.declared.Session.{Session}
-use Rattle.session_record.specs.Record.{scoreOf, recordRefusal}
+use Rattle.session_record.specs.Record.{scoreOf, playNumber, cueNumber, goNumber, insertNumber, removeNumber}
+use Rattle.session_record.specs.Laws.{passed-cue}
 use Rattle.session.specs.declared.Outcome.{Outcome}
 use Rattle.session.specs.Calls.{keptBy, emptyCue, cueAt, stateNow, heldAt, refusedWith, Plays, PlayMeets, Cues, CueMeets, Goes, GoMeets, Edits, InsertMeets, RemoveMeets}
 use Rattle.session.specs.Laws.{get-any, rendered-length}
@@ -97,7 +98,7 @@ module _ (i : Instrument) (s : Session) (work : List Float) (p : Machine) (g : S
     abbrev playing : Call
     playing = Call.play scratch m (length trace)
 
-    play-same : orElse (recordRefusal i s (length work)) (playRefusal i (s .t) scratch m (length trace)) ≡ playRefusal i (p .t) scratch m (length trace)
+    play-same : playNumber i s (length work) scratch m (length trace) ≡ playRefusal i (p .t) scratch m (length trace)
     play-same = refusal-same _ _ _ (standing-passes i s work p g) (ap (λ t. playRefusal i t scratch m (length trace)) (f .position))
 
     module _ (d : Plays i s work out trace r work′ out′ trace′) (sound : SoundMachine (record { score = p .score; t = p .t + m; cues = p .cues })) where
@@ -141,13 +142,13 @@ module _ (i : Instrument) (s : Session) (work : List Float) (p : Machine) (g : S
 
   -- ---- cue
   module _ (work′ out trace : List Float) (r : Outcome) (h : CueMeets i s work r work′) where
-    cue-same : orElse (recordRefusal i s (length work)) (cueRefusal (s .t) (keptBy s)) ≡ cueRefusal (p .t) (p .cues)
+    cue-same : cueNumber i s (length work) ≡ cueRefusal (p .t) (p .cues)
     cue-same = refusal-same _ _ _ (standing-passes i s work p g) (rw (f .position, f .cues (λ y. not (eqb (p .t) y))) refl)
 
     kept-same : isIn (s .t) (keptBy s) ≡ isIn (p .t) (p .cues)
     kept-same = ap (λ t. isIn t (keptBy s)) (f .position) ∙ in-same (p .t) (keptBy s) (p .cues) (f .cues)
 
-    module _ (d : Cues i s work r work′) (absent : isIn (s .t) (keptBy s) ≡ false) (z : cueRefusal (s .t) (keptBy s) ≡ 0)
+    module _ (d : Cues i s work r work′) (absent : isIn (s .t) (keptBy s) ≡ false) (few : others (s .t) (keptBy s) < 4)
         (sound : SoundMachine (record { score = p .score; t = p .t; cues = p .t ∷ p .cues })) where
       abbrev slot : ℕ
       slot = freeSlot (s .cues)
@@ -156,7 +157,7 @@ module _ (i : Instrument) (s : Session) (work : List Float) (p : Machine) (g : S
       new = record { kept = true; position = s .t; piano = s .piano }
 
       slot-low : slot < 4
-      slot-low = free-slot-there (s .t) (s .cues) (g .four) absent z
+      slot-low = free-slot-there (s .t) (s .cues) (g .four) absent few
 
       here : r .session ≡ record { t = s .t; count = s .count; events = s .events; cues = set (s .cues) slot new; piano = s .piano }
       here = d .adds absent .0
@@ -206,11 +207,11 @@ module _ (i : Instrument) (s : Session) (work : List Float) (p : Machine) (g : S
             room = omega (arith, slot-length (partCells i) slot (take (partCells i) work) work work′ (d .adds absent .1) first slot-low (g .room), g .room);
           }
 
-    cue-stands : (b : Bool) → isIn (p .t) (p .cues) ≡ b → Cues i s work r work′ → cueRefusal (s .t) (keptBy s) ≡ 0
+    cue-stands : (b : Bool) → isIn (p .t) (p .cues) ≡ b → Cues i s work r work′ → others (s .t) (keptBy s) < 4
         → SoundMachine (record { score = p .score; t = p .t; cues = cond b (p .cues) (p .t ∷ p .cues) })
         → Stands i (r .session) work′ (record { score = p .score; t = p .t; cues = cond b (p .cues) (p .t ∷ p .cues) })
-    cue-stands true e d z sound = let x = d .again (kept-same ∙ e) in rw (x .0, x .1) g
-    cue-stands false e d z sound = cue-added d (kept-same ∙ e) z sound
+    cue-stands true e d few sound = let x = d .again (kept-same ∙ e) in rw (x .0, x .1) g
+    cue-stands false e d few sound = cue-added d (kept-same ∙ e) few sound
 
     cue-step : Stands i (r .session) work′ (does i p Call.cue .0) × (replyOf (r .answer) out trace ≡ does i p Call.cue .1)
     unfolding does
@@ -219,8 +220,7 @@ module _ (i : Instrument) (s : Session) (work : List Float) (p : Machine) (g : S
         (λ z.
         let d = h .accepts z in
         let m = sym cue-same ∙ z in
-        let own : cueRefusal (s .t) (keptBy s) ≡ 0 = rw (f .position, f .cues (λ y. not (eqb (p .t) y))) m in
-        (cue-stands (isIn (p .t) (p .cues)) refl d own (rw m at (sound-does p (g .machine) i Call.cue)), ap (λ a. replyOf a out trace) (d .answer)))
+        (cue-stands (isIn (p .t) (p .cues)) refl d (passed-cue i s (length work) z .free) (rw m at (sound-does p (g .machine) i Call.cue)), ap (λ a. replyOf a out trace) (d .answer)))
 
   -- ---- go
   module _ (scratch q : ℕ) (work′ out trace : List Float) (r : Outcome) (h : GoMeets i s work scratch q r work′) where
@@ -232,7 +232,7 @@ module _ (i : Instrument) (s : Session) (work : List Float) (p : Machine) (g : S
         ap (λ t. startOf t (keptBy s) q) (f .position)
         ∙ greatest-same (upTo q (p .t ∷ keptBy s)) (upTo q (p .t ∷ p .cues)) (same-upTo q (p .t ∷ keptBy s) (p .t ∷ p .cues) (same-cons (p .t) (keptBy s) (p .cues) (f .cues)))
 
-    go-same : orElse (recordRefusal i s (length work)) (goRefusal i scratch q (startOf (s .t) (keptBy s) q)) ≡ goRefusal i scratch q start
+    go-same : goNumber i s (length work) scratch q ≡ goRefusal i scratch q start
     go-same = refusal-same _ _ _ (standing-passes i s work p g) (ap (goRefusal i scratch q) start-same)
 
     -- the start is 0, t or a kept cue
@@ -330,7 +330,7 @@ module _ (i : Instrument) (s : Session) (work : List Float) (p : Machine) (g : S
     edit-reply out trace = ap (λ a. replyOf a out trace) (d .answer) ∙ rw (t-same, f .cues (ltb q)) refl
 
   module _ (e : TimedEvent) (work′ out trace : List Float) (r : Outcome) (h : InsertMeets i s work e r work′) where
-    insert-same : orElse (recordRefusal i s (length work)) (insertRefusal (s .count) e) ≡ insertRefusal (length (p .score)) e
+    insert-same : insertNumber i s (length work) e ≡ insertRefusal (length (p .score)) e
     insert-same = refusal-same _ _ _ (standing-passes i s work p g) (rw (score-length i s work p g) refl)
 
     insert-step : Stands i (r .session) work′ (does i p (Call.insert e) .0) × (replyOf (r .answer) out trace ≡ does i p (Call.insert e) .1)
@@ -349,7 +349,7 @@ module _ (i : Instrument) (s : Session) (work : List Float) (p : Machine) (g : S
         ))
 
   module _ (index : ℕ) (work′ out trace : List Float) (r : Outcome) (h : RemoveMeets i s work index r work′) where
-    remove-same : orElse (recordRefusal i s (length work)) (removeRefusal (s .count) index) ≡ removeRefusal (length (p .score)) index
+    remove-same : removeNumber i s (length work) index ≡ removeRefusal (length (p .score)) index
     remove-same = refusal-same _ _ _ (standing-passes i s work p g) (rw (score-length i s work p g) refl)
 
     -- the position of the event that goes
