@@ -160,12 +160,15 @@ module _ {A : Type 0} where
     getD-gather (suc n) i j z l k =
         let len = length-gather n in
         last-or-less n i l
-        (λ e. ap (λ (m : ℕ). getD (gather n G ++ G n) (m + j) z) (ap (λ (m : ℕ). sumBelow m S) e ∙ sym len) ∙ getD-append-add (gather n G) (G n) j z ∙ ap (λ (m : ℕ). getD (G m) j z) (sym e))
+        (λ e. ap (λ (m : ℕ). getD (gather n G ++ G n) (m + j) z) (ap (λ (m : ℕ). sumBelow m S) e ∙ sym len)
+        ∙ getD-append-add (gather n G) (G n) j z
+        ∙ ap (λ (m : ℕ). getD (G m) j z) (sym e))
         (λ q. let w = sum-within S n i q in
         List·getD-append (gather n G) (G n) z (sumBelow i S + j) (subst (λ (m : ℕ). sumBelow i S + j < m) (sym len) (omega arith)) ∙ getD-gather n i j z q k)
 
     -- what holds of every element of every list holds of every element of all
-    pub all-gather : (n : ℕ) (Q : A → Bool) (z : A) → ((i j : ℕ) → i < n → j < S i → Q (getD (G i) j z) ≡ true) → (j : ℕ) → j < sumBelow n S → Q (getD (gather n G) j z) ≡ true
+    pub all-gather : (n : ℕ) (Q : A → Bool) (z : A) → ((i j : ℕ) → i < n → j < S i → Q (getD (G i) j z) ≡ true)
+        → (j : ℕ) → j < sumBelow n S → Q (getD (gather n G) j z) ≡ true
     unfolding gather sumBelow
     all-gather zero Q z h j k = absurd (omega arith)
     all-gather (suc n) Q z h j k =
