@@ -59,10 +59,10 @@ fn string_energy(cells: &[f64], d: StringDesign) -> f64
     requires { ⌜ Strung d (now cells) ⌝ }
     ensures { λ r. ⌜ r ≡ stringEnergy d (now (cells .entry)) ⌝ }
 {
-    let b_r = d.na + d.na;
-    let b_l = b_r + d.nb;
-    let c_r = b_l + d.nb;
-    let c_l = c_r + d.nc;
+    let b_r = string::at_b_r(d);
+    let b_l = string::at_b_l(d);
+    let c_r = string::at_c_r(d);
+    let c_l = string::at_c_l(d);
     let mut sum = 0.0 + energy_at(cells, 0, d.na);
     sum = sum + energy_at(cells, d.na, d.na);
     sum = sum + energy_at(cells, b_r, d.nb);

@@ -1,8 +1,10 @@
 -- Document 01, "One sample": "dampers", and of the "bridge" each key's speed, as in `render`. Definitions only.
+use mathlib.Core.Path.{_≡_}
 use mathlib.Core.List.{List}
+use mathlib.Core.Logic.{_≢_}
 use mathlib.Core.Bool.{Bool, cond}
 use Prim.Native.Nat.{ℕ, _+_, _*_}
-use lib.ListN.{getD, set, replicate}
+use lib.ListN.{length, getD, set, replicate}
 use lib.Ieee.{Float, nan, binary64, add, sub, mul, div, neg}
 use Rattle.float.specs.Float.{clampOf, two, zero as +0}
 use Rattle.cells.specs.Numbered.{listFrom, foldFrom}
@@ -17,6 +19,12 @@ constantsAt table k = record {
   step = getD table (k * 4 + 2) nan;
   divisor = getD table (k * 4 + 3) nan;
 }
+
+-- key k's constants in the table are x, and the others' are as they were
+pub record ConstantsPut (k : ℕ) (x : KeyConstants) (table table' : List Float) : Type 0 where
+  pub here : constantsAt table' k ≡ x
+  pub other : (j : ℕ) → j ≢ k → constantsAt table' j ≡ constantsAt table j
+  pub long : length table' ≡ length table
 
 abbrev pub keysOf : List Float → ℕ → List KeyConstants
 keysOf table n = listFrom (constantsAt table) 0 n

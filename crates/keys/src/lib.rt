@@ -6,7 +6,7 @@ ghost use mathlib.Core.Bool.{false};
 ghost use lib.ListN.{length, getD};
 ghost use Rattle.string.specs.Table.{tableStrings};
 ghost use Rattle.strings.specs.Strings.{AllFit};
-ghost use Rattle.keys.specs.Keys.{constantsAt, keysOf, dampedOf, dampers, sumsFrom, weightedTotal, speedOf, speeds};
+ghost use Rattle.keys.specs.Keys.{constantsAt, ConstantsPut, keysOf, dampedOf, dampers, sumsFrom, weightedTotal, speedOf, speeds};
 
 // A key's numbers: its weight, the damper's full resistance and its step a sample, and 1 + yz n for its n strings.
 pub struct KeyConstants {
@@ -17,7 +17,7 @@ pub struct KeyConstants {
 }
 
 // Key k of the table, four numbers a key.
-pub fn key_at(table: &[f64; 64], k: usize) -> KeyConstants
+pub fn constants_at(table: &[f64; 64], k: usize) -> KeyConstants
     requires { ⌜ k < 16 ⌝ }
     ensures { λ r. ⌜ r ≡ constantsAt (now (table .entry)) k ⌝ }
 {
@@ -28,6 +28,18 @@ pub fn key_at(table: &[f64; 64], k: usize) -> KeyConstants
         step: table[j + 2],
         divisor: table[j + 3],
     }
+}
+
+// The table with x as key k's.
+pub fn put_constants(table: &mut [f64; 64], k: usize, x: KeyConstants)
+    requires { ⌜ (length (now table) ≡ 64) × (k < 16) ⌝ }
+    ensures { λ _. ⌜ ConstantsPut k x (now (table .entry)) (now (table .exit)) ⌝ }
+{
+    let j = k * 4;
+    table[j] = x.weight;
+    table[j + 1] = x.r_max;
+    table[j + 2] = x.step;
+    table[j + 3] = x.divisor;
 }
 
 fn damper_after(key: KeyConstants, down: bool, damper_r: f64) -> f64
@@ -46,7 +58,7 @@ pub fn move_dampers(table: &[f64; 64], down: &[bool; 16], damper_r: &mut [f64; 1
     ensures { λ _. ⌜ now («damper_r» .exit) ≡ dampers (keysOf (now (table .entry)) n) (λ k. getD (now (down .entry)) k false) (now («damper_r» .entry)) ⌝ }
 {
     for k in 0..n {
-        let key = key_at(table, k);
+        let key = constants_at(table, k);
         damper_r[k] = damper_after(key, down[k], damper_r[k]);
     }
 }
@@ -77,7 +89,7 @@ pub fn weighted_total(table: &[f64; 64], sums: &[f64; 16], n: usize) -> f64
 {
     let mut total = 0.0;
     for k in 0..n {
-        let key = key_at(table, k);
+        let key = constants_at(table, k);
         total = total + key.weight * sums[k];
     }
     total
@@ -95,7 +107,7 @@ pub fn bridge_speeds(table: &[f64; 64], yz: f64, total: f64, sums: &mut [f64; 16
     ensures { λ _. ⌜ now (sums .exit) ≡ speeds yz total (keysOf (now (table .entry)) n) (now (sums .entry)) ⌝ }
 {
     for k in 0..n {
-        let key = key_at(table, k);
+        let key = constants_at(table, k);
         sums[k] = bridge_speed(key, yz, total, sums[k]);
     }
 }

@@ -111,8 +111,8 @@ pub fn strike_string(
     ensures { λ f. ⌜ (f ≡ contactAt c h d (readsOf d t (now (part .entry))) (now (part .entry)) .force)
         × (now (part .exit) ≡ turned c h «damper_r» d t (now (part .entry))) ⌝ }
 {
-    let y = d.na + d.na + d.nb + d.nb + d.nc + d.nc + (2 * d.ap_count + 3);
-    let m = y + 1;
+    let y = string::at_y_s(d);
+    let m = string::at_memory(d);
     let r = string::read_string(part, d, x, t);
     let y_s = part[y];
     let touch = feel(c, h, d.key, y_s, part[m], r);

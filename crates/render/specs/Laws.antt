@@ -6,16 +6,11 @@ use mathlib.Core.List.{List, [], _∷_, _++_}
 use Prim.Native.Nat.{ℕ, zero, suc, _+_, _≤_, _<_}
 use native.Mathlib.Nat.{zero-add}
 use native.Mathlib.Omega.{arith}
-use lib.ListN.{length, getD, length-replicate}
-use lib.Ieee.{Float, nan}
-use Rattle.cells.specs.Parts.{map-length}
+use lib.ListN.{length, length-replicate}
+use lib.Ieee.{Float}
 use Rattle.instrument.specs.declared.Instrument.{Instrument}
-use Rattle.string.specs.String.{sizeOf, nutWrite}
-use Rattle.string.specs.Laws.{nut-length}
-use Rattle.points.specs.Points.{struck}
-use Rattle.points.specs.Laws.{struck-length}
-use Rattle.strings.specs.Strings.{cellsOf, unread, readsAll, vIns, filteredAll, pointsAll, nutsAll}
-use Rattle.strings.specs.Laws.{filtered-all-length, bridge-all-length}
+use Rattle.strings.specs.Strings.{cellsOf, readsAll, vIns, filteredAll, pointsAll, nutsAll}
+use Rattle.strings.specs.Laws.{filtered-all-length, points-all-length, nuts-all-length, bridge-all-length}
 use Rattle.keys.specs.Keys.{dampers, bridgeSpeeds}
 use Rattle.sample.specs.declared.Motion.{Motion}
 use Rattle.sample.specs.Sample.{Model, sampled}
@@ -46,11 +41,8 @@ sampled-length m down t R motion w h =
     let w2 = pointsAll c hammer R' ds t reads w1 in
     let w3 = nutsAll ds t reads w2 in
     let n1 : length w1 ≡ length w = filtered-all-length ds w h t in
-    let n2 : length w2 ≡ length w1 =
-    map-length sizeOf (λ i d p. struck c hammer (getD R' (d .key) nan) d t (getD reads i unread) p)
-    (λ k d p e. struck-length c hammer (getD R' (d .key) nan) d t (getD reads k unread) p ∙ e) 0 ds w1 (omega (arith, n1)) in
-    let n3 : length w3 ≡ length w2 =
-    map-length sizeOf (λ i d p. nutWrite d t (getD reads i unread) p) (λ k d p e. nut-length d t (getD reads k unread) p ∙ e) 0 ds w2 (omega (arith, n1, n2)) in
+    let n2 : length w2 ≡ length w1 = points-all-length ds w1 (omega (arith, n1)) c hammer R' t reads in
+    let n3 : length w3 ≡ length w2 = nuts-all-length ds w2 (omega (arith, n1, n2)) t reads in
     bridge-all-length ds w3 (omega (arith, n1, n2, n3)) (bridgeSpeeds (c .yz) (m .keys) ds v) v t ∙ n3 ∙ n2 ∙ n1
 
 -- ---- with its events

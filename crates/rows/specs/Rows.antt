@@ -15,8 +15,8 @@ use Rattle.rows.specs.declared.Next.{Next}
 use Rattle.strings.specs.Strings.{Keyed}
 
 -- where string k's cells start, and how many they are
-abbrev pub rowStart : (ℕ → StringDesign) → ℕ → ℕ
-rowStart f k = startIn sizeOf f k
+abbrev pub stringStart : (ℕ → StringDesign) → ℕ → ℕ
+stringStart f k = startIn sizeOf f k
 
 abbrev pub sizeAt : (ℕ → StringDesign) → ℕ → ℕ
 sizeAt f k = sizeIn sizeOf f k
@@ -24,22 +24,22 @@ sizeAt f k = sizeIn sizeOf f k
 -- string k is f k
 module _ (f : ℕ → StringDesign) where
   abbrev pub cellsIn : ℕ → List Float → List Float
-  cellsIn k w = own (rowStart f) (sizeAt f) k w
+  cellsIn k w = own (stringStart f) (sizeAt f) k w
 
   -- string i + l is moved on by g l, for each l below m
   abbrev pub MovedOn : ℕ → ℕ → (ℕ → List Float → List Float) → List Float → List Float → Type 0
-  MovedOn i m g w₀ w = Moved (rowStart f) (sizeAt f) i m g w₀ w
+  MovedOn i m g w₀ w = Moved (stringStart f) (sizeAt f) i m g w₀ w
 
   -- the m strings from string i on, at most four, whose cells are there
   pub record Few (i m : ℕ) (w : List Float) : Type 0 where
     pub few : m ≤ 4
     pub known : i + m ≤ 32
     pub fit : (k : ℕ) → k < i + m → Keyed (f k)
-    pub room : rowStart f (i + m) ≤ length w
+    pub room : stringStart f (i + m) ≤ length w
 
   -- where their rows start, the rows' coefficients, and a number of stages that each of them has
   pub record Laid (i m : ℕ) (r : Rows) : Type 0 where
-    pub start : (l : ℕ) → l < m → getD (r .starts) l 0 ≡ rowStart f (i + l) + atRow (f (i + l))
+    pub start : (l : ℕ) → l < m → getD (r .starts) l 0 ≡ stringStart f (i + l) + atRow (f (i + l))
     pub coefficient : (l : ℕ) → l < m → getD (r .«ap_a») l nan ≡ f (i + l) .filter .«ap_a»
     pub enough : (l : ℕ) → l < m → r .stages ≤ f (i + l) .«ap_count»
     pub most : r .stages ≤ 66
@@ -67,13 +67,13 @@ module _ (f : ℕ → StringDesign) where
   pub record Finished (i m n : ℕ) (v w₀ w o₀ o : List Float) (e : ℕ) : Type 0 where
     pub cells : MovedOn i m (λ l p. finished (f (i + l)) n (getD v l nan) p) w₀ w
     pub outputs : Stored nan i m (λ l. finishedOut (f (i + l)) n (getD v l nan) (cellsIn (i + l) w₀)) o₀ o
-    pub end : e ≡ rowStart f (i + m)
+    pub end : e ≡ stringStart f (i + m)
 
   -- each string's loop filter is moved on, and its v_in stored
   pub record Filtered (i m t : ℕ) (w₀ w o₀ o : List Float) (e : ℕ) : Type 0 where
     pub cells : MovedOn i m (λ l p. filtered (f (i + l)) t p) w₀ w
     pub outputs : Stored nan i m (λ l. vIn (f (i + l)) t (cellsIn (i + l) w₀)) o₀ o
-    pub end : e ≡ rowStart f (i + m)
+    pub end : e ≡ stringStart f (i + m)
 
   -- the same of the strings from i up to the next, of n
   pub record FilteredTo (i n t : ℕ) (w₀ w o₀ o : List Float) (r : Next) : Type 0 where

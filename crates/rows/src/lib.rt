@@ -6,7 +6,7 @@ ghost use Prim.Native.Nat.{_+_, _*_, _^_, _≤_, _<_};
 ghost use lib.ListN.{length, drop};
 ghost use Rattle.string.specs.Table.{designAt, tableStrings};
 ghost use Rattle.strings.specs.Strings.{AllFit, Indexed, cellsOf, filteredAll, vIns};
-ghost use Rattle.rows.specs.Rows.{rowStart, Few, Laid, Started, Staged, InRows, Finished, Filtered, FilteredTo};
+ghost use Rattle.rows.specs.Rows.{stringStart, Few, Laid, Started, Staged, InRows, Finished, Filtered, FilteredTo};
 
 // Of a few strings that go through their rows together: where each row starts among the part's cells, its coefficient, and
 // how many stages all of them have.
@@ -32,8 +32,8 @@ fn rows_of(
     m: usize,
 ) -> Rows
     requires { ⌜ (m ≤ 4) × (i + m ≤ 32) ⌝ }
-    requires { ⌜ first ≡ rowStart (designAt (now lengths) (now coefficients)) i ⌝ }
-    requires { ⌜ rowStart (designAt (now lengths) (now coefficients)) (i + m) < 2 ^ 64 ⌝ }
+    requires { ⌜ first ≡ stringStart (designAt (now lengths) (now coefficients)) i ⌝ }
+    requires { ⌜ stringStart (designAt (now lengths) (now coefficients)) (i + m) < 2 ^ 64 ⌝ }
     ensures { λ r. ⌜ Laid (designAt (now (lengths .entry)) (now (coefficients .entry))) i m r ⌝ }
 {
     let mut starts = [0usize; 4];
@@ -43,7 +43,7 @@ fn rows_of(
     for l in 0..m {
         let d = string::design_at(lengths, coefficients, i + l);
         let filter = d.filter;
-        starts[l] = at + string::row_start(d);
+        starts[l] = at + string::at_row(d);
         ap_a[l] = filter.ap_a;
         stages = less(stages, d.ap_count);
         at = at + string::size(d);
@@ -68,7 +68,7 @@ fn start_strings(
 ) -> [f64; 4]
     requires { ⌜ Few (designAt (now lengths) (now coefficients)) i m (now part) ⌝ }
     requires { ⌜ Indexed (now lengths) (now coefficients) (now indices) (i + m) t ⌝ }
-    requires { ⌜ first ≡ rowStart (designAt (now lengths) (now coefficients)) i ⌝ }
+    requires { ⌜ first ≡ stringStart (designAt (now lengths) (now coefficients)) i ⌝ }
     ensures { λ r. ⌜ Started (designAt (now (lengths .entry)) (now (coefficients .entry))) i m t (now (part .entry)) (now (part .exit)) r ⌝ }
 {
     let mut v = [0.0; 4];
@@ -142,7 +142,7 @@ fn finish_strings(
 ) -> usize
     requires { ⌜ Few (designAt (now lengths) (now coefficients)) i m (now part) ⌝ }
     requires { ⌜ Laid (designAt (now lengths) (now coefficients)) i m rows ⌝ }
-    requires { ⌜ first ≡ rowStart (designAt (now lengths) (now coefficients)) i ⌝ }
+    requires { ⌜ first ≡ stringStart (designAt (now lengths) (now coefficients)) i ⌝ }
     requires { ⌜ i + m ≤ length (now «v_in») ⌝ }
     ensures { λ r. ⌜ Finished (designAt (now (lengths .entry)) (now (coefficients .entry))) i m (2 * rows .stages) (now (v .entry))
         (now (part .entry)) (now (part .exit)) (now («v_in» .entry)) (now («v_in» .exit)) r ⌝ }
@@ -172,7 +172,7 @@ fn filter_together(
 ) -> usize
     requires { ⌜ Few (designAt (now lengths) (now coefficients)) i m (now part) ⌝ }
     requires { ⌜ Indexed (now lengths) (now coefficients) (now indices) (i + m) t ⌝ }
-    requires { ⌜ first ≡ rowStart (designAt (now lengths) (now coefficients)) i ⌝ }
+    requires { ⌜ first ≡ stringStart (designAt (now lengths) (now coefficients)) i ⌝ }
     requires { ⌜ i + m ≤ length (now «v_in») ⌝ }
     ensures { λ r. ⌜ Filtered (designAt (now (lengths .entry)) (now (coefficients .entry))) i m t
         (now (part .entry)) (now (part .exit)) (now («v_in» .entry)) (now («v_in» .exit)) r ⌝ }
@@ -196,7 +196,7 @@ fn filter_one(
 ) -> usize
     requires { ⌜ Few (designAt (now lengths) (now coefficients)) i 1 (now part) ⌝ }
     requires { ⌜ Indexed (now lengths) (now coefficients) (now indices) (i + 1) t ⌝ }
-    requires { ⌜ first ≡ rowStart (designAt (now lengths) (now coefficients)) i ⌝ }
+    requires { ⌜ first ≡ stringStart (designAt (now lengths) (now coefficients)) i ⌝ }
     requires { ⌜ i + 1 ≤ length (now «v_in») ⌝ }
     ensures { λ r. ⌜ Filtered (designAt (now (lengths .entry)) (now (coefficients .entry))) i 1 t
         (now (part .entry)) (now (part .exit)) (now («v_in» .entry)) (now («v_in» .exit)) r ⌝ }
@@ -229,14 +229,15 @@ fn filter_next(
 ) -> Next
     requires { ⌜ AllFit (now lengths) (now coefficients) n ⌝ }
     requires { ⌜ Indexed (now lengths) (now coefficients) (now indices) n t ⌝ }
-    requires { ⌜ rowStart (designAt (now lengths) (now coefficients)) n ≤ length (now part) ⌝ }
+    requires { ⌜ stringStart (designAt (now lengths) (now coefficients)) n ≤ length (now part) ⌝ }
     requires { ⌜ n ≤ length (now «v_in») ⌝ }
-    requires { ⌜ (at ≡ rowStart (designAt (now lengths) (now coefficients)) i) × (i < n) ⌝ }
+    requires { ⌜ (at ≡ stringStart (designAt (now lengths) (now coefficients)) i) × (i < n) ⌝ }
     ensures { λ r. ⌜ FilteredTo (designAt (now (lengths .entry)) (now (coefficients .entry))) i n t
         (now (part .entry)) (now (part .exit)) (now («v_in» .entry)) (now («v_in» .exit)) r ⌝ }
 {
     let left = n - i;
-    if lengths[i * 5 + 3] == 0 {
+    let d = string::design_at(lengths, coefficients, i);
+    if d.ap_count == 0 {
         let end = filter_one(part, v_in, lengths, coefficients, indices, at, i, t);
         return Next { at: end, i: i + 1 };
     }

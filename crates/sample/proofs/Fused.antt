@@ -9,9 +9,9 @@ use lib.ListN.{length}
 use lib.Ieee.{Float}
 use Rattle.cells.specs.Parts.{collect-length}
 use Rattle.string.specs.declared.StringDesign.{StringDesign}
-use Rattle.string.specs.String.{sizeOf, vIn}
+use Rattle.string.specs.String.{sizeOf}
 use Rattle.points.specs.declared.ForceSum.{ForceSum}
-use Rattle.strings.specs.Strings.{cellsOf, readsAll, vIns, filteredAll, pointsAll, nutsAll, turnedAll, pointForce, forceAll, noForce, bridgeAll, bridgeForce}
+use Rattle.strings.specs.Strings.{cellsOf, readsAll, vInOne, vIns, filteredAll, pointsAll, nutsAll, turnedAll, pointForce, forceAll, noForce, bridgeAll, bridgeForce}
 use Rattle.strings.specs.Laws.{AllSound, turns-are, forces-are, bridge-front, bridge-force-front}
 use Rattle.keys.specs.Keys.{dampers, bridgeSpeeds}
 use Rattle.keys.specs.Laws.{speeds-front}
@@ -42,7 +42,7 @@ module _ (m : Model) (down : ℕ → Bool) (t : ℕ) (R : List Float) (motion : 
   speeds = bridgeSpeeds (m .constants .yz) (m .keys) (m .strings) (vIns (m .strings) t w)
 
   one-each : length v ≡ length ds
-  one-each = collect-length sizeOf (λ i d p. vIn d t p) 0 ds w
+  one-each = collect-length sizeOf (vInOne t) 0 ds w
 
   w2-is : w2 ≡ nuts
   w2-is = rw (h1, hR) at h2 ∙ sym (turns-are (m .constants) (motion .hammer) (dampers (m .keys) down R) ds t w ok h)

@@ -62,7 +62,7 @@ fn key_constants(common: Common, key: KeyDesign) -> KeyConstants
     }
 }
 
-// The table of the keys' constants, four numbers a key.
+// The table of the keys' constants.
 pub fn key_table(instrument: Instrument) -> [f64; 64]
     requires { ⌜ instrument .«key_count» ≤ 16 ⌝ }
     ensures { λ r. ⌜ KeysFilled instrument r ⌝ }
@@ -72,11 +72,7 @@ pub fn key_table(instrument: Instrument) -> [f64; 64]
     for k in 0..instrument.key_count {
         let key = instrument.keys[k];
         let x = key_constants(common, key);
-        let j = k * 4;
-        table[j] = x.weight;
-        table[j + 1] = x.r_max;
-        table[j + 2] = x.step;
-        table[j + 3] = x.divisor;
+        keys::put_constants(&mut table, k, x);
     }
     table
 }
@@ -130,7 +126,7 @@ fn design_of(l: LoopDesign, key: KeyDesign, k: usize) -> StringDesign
     }
 }
 
-// The tables of the strings' designs, five lengths and four coefficients a string.
+// The tables of the strings' designs.
 pub fn string_tables(instrument: Instrument) -> StringTables
     requires { ⌜ instrument .«key_count» ≤ 16 ⌝ }
     requires { ⌜ instrument .«string_count» ≤ 32 ⌝ }
@@ -145,18 +141,7 @@ pub fn string_tables(instrument: Instrument) -> StringTables
         let key = instrument.keys[k];
         let l = instrument.strings[i];
         let d = design_of(l, key, k);
-        let f = d.filter;
-        let j = i * 5;
-        lengths[j] = d.na;
-        lengths[j + 1] = d.nb;
-        lengths[j + 2] = d.nc;
-        lengths[j + 3] = d.ap_count;
-        lengths[j + 4] = d.key;
-        let m = i * 4;
-        coefficients[m] = f.thiran_a;
-        coefficients[m + 1] = f.ap_a;
-        coefficients[m + 2] = f.loss_g;
-        coefficients[m + 3] = f.loss_c;
+        string::put_design(&mut lengths, &mut coefficients, i, d);
     }
     StringTables {
         lengths: lengths,

@@ -65,7 +65,8 @@ told-turn i p down k t h few =
       below = omega arith;
       long = length-set down k (isDown i p k) ∙ t .long;
       each = λ j hj. one-more j k hj
-          (λ e. ap (λ (n : ℕ). getD (set down k (isDown i p k)) n false) e ∙ getD-set-same down k (isDown i p k) false (omega arith) ∙ ap (λ (n : ℕ). isDown i p n) (sym e))
+          (λ e. ap (λ (n : ℕ). getD (set down k (isDown i p k)) n false) e ∙ getD-set-same down k (isDown i p k) false (omega arith)
+          ∙ ap (λ (n : ℕ). isDown i p n) (sym e))
           (λ l. getD-set-other down k j (isDown i p k) false (λ q. omega arith) ∙ t .each j l);
     }
 
@@ -73,7 +74,8 @@ told-turn i p down k t h few =
 pub record Later (es : List TimedEvent) (from next i : ℕ) : Type 0 where
   pub each : (j : ℕ) → j < i → from ≤ getD es j noEvent .position → next ≤ getD es j noEvent .position
 
-pub later-turn : (es : List TimedEvent) (from next i r : ℕ) → Later es from next i → r ≤ next → (from ≤ getD es i noEvent .position → r ≤ getD es i noEvent .position) → Later es from r (i + 1)
+pub later-turn : (es : List TimedEvent) (from next i r : ℕ) → Later es from next i → r ≤ next
+    → (from ≤ getD es i noEvent .position → r ≤ getD es i noEvent .position) → Later es from r (i + 1)
 later-turn es from next i r l h k = record {
   each = λ j hj hf. one-more j i hj
       (λ e. rw e (k (rw e at hf)))
@@ -99,17 +101,16 @@ module _ (i : Instrument) (ds : List StringDesign) (es : List TimedEvent) (t : �
 
     pub acted-now : e .position ≡ t → (s' : State) → s' ≡ applied i ds (e .event) s → Acted s' (k + 1)
     unfolding applyAll eventsAt
-    acted-now p s' q = record {
-      rest =
-          rw q (sym (let z : applyAll i ds (eventsAt (drop k es) t) s ≡ applyAll i ds (eventsAt (drop (k + 1) es) t) (applied i ds (e .event) s) = rw (rest-is, eq-eqb (e .position) t p) in z) ∙ a .rest);
-    }
+    acted-now p s' q =
+        let after = applied i ds (e .event) s in
+        let z : applyAll i ds (eventsAt (drop k es) t) s ≡ applyAll i ds (eventsAt (drop (k + 1) es) t) after = rw (rest-is, eq-eqb (e .position) t p) in
+        record { rest = rw q (sym z ∙ a .rest) }
 
     pub acted-other : (e .position ≡ t → ⊥) → Acted s (k + 1)
     unfolding eventsAt
-    acted-other p = record {
-      rest =
-          sym (let z : applyAll i ds (eventsAt (drop k es) t) s ≡ applyAll i ds (eventsAt (drop (k + 1) es) t) s = rw (rest-is, ne-eqb (e .position) t p) in z) ∙ a .rest;
-    }
+    acted-other p =
+        let z : applyAll i ds (eventsAt (drop k es) t) s ≡ applyAll i ds (eventsAt (drop (k + 1) es) t) s = rw (rest-is, ne-eqb (e .position) t p) in
+        record { rest = sym z ∙ a .rest }
 
   pub acted-end : (s : State) (k : ℕ) → Acted s k → length es ≤ k → s ≡ applyAll i ds (eventsAt es t) s₀
   unfolding applyAll eventsAt

@@ -34,8 +34,11 @@ keyIndex keys i (suc n) x = cond (eqb (keyAt keys i .key) x) i (keyIndex keys (i
 unfoldable pub cleared : ℕ → StringDesign → List Float → List Float
 cleared k d p = cond (eqb (d .key) k) (set (set p (atYS d) +0) (atMemory d) +0) p
 
+abbrev pub clearedOne : ℕ → ℕ → StringDesign → List Float → List Float
+clearedOne k i d p = cleared k d p
+
 abbrev pub clearedAll : ℕ → List StringDesign → List Float → List Float
-clearedAll k ds w = mapParts sizeOf (λ i d p. cleared k d p) 0 ds w
+clearedAll k ds w = mapParts sizeOf (clearedOne k) 0 ds w
 
 -- the piano with key k struck, released, or damped by hand, and with its pedal moved
 unfoldable pub struckKey : ℕ → Float → Piano → Piano

@@ -17,7 +17,7 @@ use Rattle.instrument.specs.declared.Instrument.{Instrument}
 use Rattle.score.specs.declared.Event.{Event}
 use Rattle.score.specs.declared.Event.the-variants.{NoteOn, NoteOff, Pedal, HandDamp}
 use Rattle.score.specs.declared.TimedEvent.{TimedEvent}
-use Rattle.score.specs.Events.{State, keyIndex, cleared, clearedAll, struckKey, heldTo, handDamped, pedalTo, onKey, applied, applyAll}
+use Rattle.score.specs.Events.{State, keyIndex, cleared, clearedOne, clearedAll, struckKey, heldTo, handDamped, pedalTo, onKey, applied, applyAll}
 use Rattle.score.specs.Score.{eventsAt, NextFrom}
 
 -- a string keeps its length when it forgets
@@ -54,7 +54,7 @@ applied-length : (i : Instrument) (ds : List StringDesign) (e : Event) (s : Stat
 unfolding applied
 applied-length i ds (NoteOn x v) s h =
     on-key (λ (z : State). length (z .cells)) i x (λ k s. record { piano = struckKey k v (s .piano); cells = clearedAll k ds (s .cells) }) s
-    (λ k. map-length sizeOf (λ i d p. cleared k d p) (λ j d p e. cleared-length k d p ∙ e) 0 ds (s .cells) h)
+    (λ k. map-length sizeOf (clearedOne k) (λ j d p e. cleared-length k d p ∙ e) 0 ds (s .cells) h)
 applied-length i ds (NoteOff x) s h = on-key (λ (z : State). length (z .cells)) i x (λ k s. record { piano = heldTo false k (s .piano); cells = s .cells }) s (λ k. refl)
 applied-length i ds (Pedal b) s h = refl
 applied-length i ds (HandDamp x) s h = on-key (λ (z : State). length (z .cells)) i x (λ k s. record { piano = handDamped k (s .piano); cells = s .cells }) s (λ k. refl)

@@ -60,9 +60,10 @@ fn clear_string(part: &mut [f64], d: StringDesign, k: usize)
     ensures { λ _. ⌜ now (part .exit) ≡ cleared k d (now (part .entry)) ⌝ }
 {
     if d.key == k {
-        let y = d.na + d.na + d.nb + d.nb + d.nc + d.nc + (2 * d.ap_count + 3);
+        let y = string::at_y_s(d);
+        let m = string::at_memory(d);
         part[y] = 0.0;
-        part[y + 1] = 0.0;
+        part[m] = 0.0;
     }
 }
 

@@ -4,9 +4,10 @@ ghost use mathlib.Core.Path.{_≡_};
 ghost use Prim.Native.Nat.{_+_, _*_, _%_, _≤_, _<_, _^_};
 ghost use lib.ListN.{length};
 ghost use Rattle.cells.specs.Line.{lineRead, lineWrite};
-ghost use Rattle.string.specs.String.{sizeOf, HasLines, Strung, IndicesAt, readAt, writeAt, readsOf, vIn, filtered, pointWrites, nutWrite, bridgeWrite};
+ghost use Rattle.string.specs.String.{atBR, atBL, atCR, atCL, atFilter, atYS, atMemory, sizeOf, HasLines, Strung, IndicesAt};
+ghost use Rattle.string.specs.String.{readAt, writeAt, readsOf, vIn, filtered, pointWrites, nutWrite, bridgeWrite};
 ghost use Rattle.string.specs.Steps.{atRow, uIn, started, finishedOut, finished};
-ghost use Rattle.string.specs.Table.{designAt, indicesIn, putIndices};
+ghost use Rattle.string.specs.Table.{designAt, DesignPut, indicesIn, putIndices};
 
 // The three cuts, the number of dispersion stages, the index of the string's key, and the filter's coefficients.
 pub struct StringDesign {
@@ -57,12 +58,94 @@ pub fn design_at(lengths: &[usize; 160], coefficients: &[f64; 128], i: usize) ->
     }
 }
 
-// How many cells a string has.
+// The tables with d as string i.
+pub fn put_design(
+    lengths: &mut [usize; 160],
+    coefficients: &mut [f64; 128],
+    i: usize,
+    d: StringDesign,
+)
+    requires { ⌜ (length (now lengths) ≡ 160) × (length (now coefficients) ≡ 128) × (i < 32) ⌝ }
+    ensures { λ _. ⌜ DesignPut i d (now (lengths .entry)) (now (coefficients .entry)) (now (lengths .exit)) (now (coefficients .exit)) ⌝ }
+{
+    let j = i * 5;
+    let k = i * 4;
+    let filter = d.filter;
+    lengths[j] = d.na;
+    lengths[j + 1] = d.nb;
+    lengths[j + 2] = d.nc;
+    lengths[j + 3] = d.ap_count;
+    lengths[j + 4] = d.key;
+    coefficients[k] = filter.thiran_a;
+    coefficients[k + 1] = filter.ap_a;
+    coefficients[k + 2] = filter.loss_g;
+    coefficients[k + 3] = filter.loss_c;
+}
+
+// Where a string's lines, its filter's cells and what lies behind them start among its cells, and how many cells it has: each offset is
+// computed here and nowhere else. a_r starts at 0 and a_l at na.
+pub fn at_b_r(d: StringDesign) -> usize
+    requires { ⌜ sizeOf d < 2 ^ 64 ⌝ }
+    ensures { λ r. ⌜ r ≡ atBR d ⌝ }
+{
+    d.na + d.na
+}
+
+pub fn at_b_l(d: StringDesign) -> usize
+    requires { ⌜ sizeOf d < 2 ^ 64 ⌝ }
+    ensures { λ r. ⌜ r ≡ atBL d ⌝ }
+{
+    at_b_r(d) + d.nb
+}
+
+pub fn at_c_r(d: StringDesign) -> usize
+    requires { ⌜ sizeOf d < 2 ^ 64 ⌝ }
+    ensures { λ r. ⌜ r ≡ atCR d ⌝ }
+{
+    at_b_l(d) + d.nb
+}
+
+pub fn at_c_l(d: StringDesign) -> usize
+    requires { ⌜ sizeOf d < 2 ^ 64 ⌝ }
+    ensures { λ r. ⌜ r ≡ atCL d ⌝ }
+{
+    at_c_r(d) + d.nc
+}
+
+fn at_filter(d: StringDesign) -> usize
+    requires { ⌜ sizeOf d < 2 ^ 64 ⌝ }
+    ensures { λ r. ⌜ r ≡ atFilter d ⌝ }
+{
+    at_c_l(d) + d.nc
+}
+
+// The cells of the dispersion stages, behind Thiran's two.
+pub fn at_row(d: StringDesign) -> usize
+    requires { ⌜ sizeOf d < 2 ^ 64 ⌝ }
+    ensures { λ r. ⌜ r ≡ atRow d ⌝ }
+{
+    at_filter(d) + 2
+}
+
+pub fn at_y_s(d: StringDesign) -> usize
+    requires { ⌜ sizeOf d < 2 ^ 64 ⌝ }
+    ensures { λ r. ⌜ r ≡ atYS d ⌝ }
+{
+    at_filter(d) + (2 * d.ap_count + 3)
+}
+
+pub fn at_memory(d: StringDesign) -> usize
+    requires { ⌜ sizeOf d < 2 ^ 64 ⌝ }
+    ensures { λ r. ⌜ r ≡ atMemory d ⌝ }
+{
+    at_y_s(d) + 1
+}
+
 pub fn size(d: StringDesign) -> usize
     requires { ⌜ sizeOf d < 2 ^ 64 ⌝ }
     ensures { λ r. ⌜ r ≡ sizeOf d ⌝ }
 {
-    d.na + d.na + d.nb + d.nb + d.nc + d.nc + (2 * d.ap_count + 3) + 2
+    at_y_s(d) + 2
 }
 
 // The cell of a line of len cells that sample t reads and writes, by division.
@@ -168,9 +251,9 @@ pub fn read_string(part: &[f64], d: StringDesign, x: Indices, t: u64) -> Reads
     requires { ⌜ IndicesAt d t x ⌝ }
     ensures { λ r. ⌜ r ≡ readsOf d t (now (part .entry)) ⌝ }
 {
-    let b_r = d.na + d.na;
-    let b_l = b_r + d.nb;
-    let c_l = b_l + d.nb + d.nc;
+    let b_r = at_b_r(d);
+    let b_l = at_b_l(d);
+    let c_l = at_c_l(d);
     let a = read_line(part, 0, d.na, x.a, t);
     let b = read_line(part, b_l, d.nb, x.b, t);
     let c = read_line(part, b_r, d.nb, x.b, t);
@@ -199,9 +282,9 @@ pub fn write_string(
     requires { ⌜ IndicesAt d t x ⌝ }
     ensures { λ _. ⌜ now (part .exit) ≡ nutWrite d t r (pointWrites d t r «inject_h» «inject_d» (now (part .entry))) ⌝ }
 {
-    let b_r = d.na + d.na;
-    let b_l = b_r + d.nb;
-    let c_r = b_l + d.nb;
+    let b_r = at_b_r(d);
+    let b_l = at_b_l(d);
+    let c_r = at_c_r(d);
     write_line(part, b_r, d.nb, x.b, t, r.a + inject_h);
     write_line(part, d.na, d.na, x.a, t, r.b + inject_h);
     write_line(part, c_r, d.nc, x.c, t, r.c + inject_d);
@@ -215,20 +298,12 @@ pub fn filter_string(part: &mut [f64], d: StringDesign, x: Indices, t: u64) -> f
     requires { ⌜ IndicesAt d t x ⌝ }
     ensures { λ r. ⌜ (r ≡ vIn d t (now (part .entry))) × (now (part .exit) ≡ filtered d t (now (part .entry))) ⌝ }
 {
-    let c_r = d.na + d.na + d.nb + d.nb;
+    let c_r = at_c_r(d);
     let v = read_line(part, c_r, d.nc, x.c, t);
-    let f = c_r + d.nc + d.nc;
-    let y = f + (2 * d.ap_count + 3);
+    let f = at_filter(d);
+    let y = at_y_s(d);
     let filter = d.filter;
     filter::loop_filter(&mut part[f..y], filter, v)
-}
-
-// Where the cells of a string's row start.
-pub fn row_start(d: StringDesign) -> usize
-    requires { ⌜ sizeOf d < 2 ^ 64 ⌝ }
-    ensures { λ r. ⌜ r ≡ atRow d ⌝ }
-{
-    d.na + d.na + d.nb + d.nb + d.nc + d.nc + 2
 }
 
 // The loop filter in two of its three steps: Thiran's stage on what reaches the bridge; and, once the first k cells of the row are done, what is left.
@@ -237,10 +312,10 @@ pub fn start_filter(part: &mut [f64], d: StringDesign, x: Indices, t: u64) -> f6
     requires { ⌜ IndicesAt d t x ⌝ }
     ensures { λ r. ⌜ (r ≡ uIn d t (now (part .entry))) × (now (part .exit) ≡ started d t (now (part .entry))) ⌝ }
 {
-    let c_r = d.na + d.na + d.nb + d.nb;
+    let c_r = at_c_r(d);
     let v = read_line(part, c_r, d.nc, x.c, t);
-    let f = c_r + d.nc + d.nc;
-    let e = f + 2;
+    let f = at_filter(d);
+    let e = at_row(d);
     let filter = d.filter;
     filter::allpass(&mut part[f..e], filter.thiran_a, v)
 }
@@ -250,8 +325,8 @@ pub fn finish_filter(part: &mut [f64], d: StringDesign, k: usize, v: f64) -> f64
     requires { ⌜ k ≤ 2 * d .«ap_count» ⌝ }
     ensures { λ r. ⌜ (r ≡ finishedOut d k v (now (part .entry))) × (now (part .exit) ≡ finished d k v (now (part .entry))) ⌝ }
 {
-    let f = d.na + d.na + d.nb + d.nb + d.nc + d.nc;
-    let y = f + (2 * d.ap_count + 3);
+    let f = at_filter(d);
+    let y = at_y_s(d);
     let filter = d.filter;
     filter::finish(&mut part[f..y], filter, k, v)
 }
@@ -262,6 +337,6 @@ pub fn bridge_string(part: &mut [f64], d: StringDesign, x: Indices, t: u64, v: f
     requires { ⌜ IndicesAt d t x ⌝ }
     ensures { λ _. ⌜ now (part .exit) ≡ bridgeWrite d t v (now (part .entry)) ⌝ }
 {
-    let c_l = d.na + d.na + d.nb + d.nb + d.nc;
+    let c_l = at_c_l(d);
     write_line(part, c_l, d.nc, x.c, t, v);
 }

@@ -1,4 +1,4 @@
--- `energies::energy_at` meets its contract. Assumes nothing.
+-- `energies::energy_at` meets its contract: the cells lent from a to a + len are the line. Assumes nothing.
 use mathlib.Core.Path.{_≡_, ap, _∙_}
 use Prim.Native.Nat.{ℕ, _+_, _-_}
 use native.Mathlib.Omega.{arith}

@@ -42,7 +42,9 @@ returns-2 : tie.Need-returns-2
 returns-2 c =
     let tested = c .before .before .before .before in
     let from = tested .before .before .args in
-    energies-found (from .instrument) (from .session) (from .work .now) _ (tested .record-refusal .ensures) (c .before .before .before .if1 .left) _ (c .before .before .part-size .ensures) _ (c .part-energies .ensures)
+    let size = c .before .before .part-size in
+    let left = c .before .before .before .if1 .left in
+    energies-found (from .instrument) (from .session) (from .work .now) _ (tested .record-refusal .ensures) left _ (size .ensures) _ (c .part-energies .ensures)
 
 pub key-energies-spec : {M : Type 1} → statement M
 key-energies-spec =

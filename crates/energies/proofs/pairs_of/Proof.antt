@@ -55,7 +55,10 @@ loop-again c =
     (refl, omega arith, pairs-more (pairOf (at .t1) (at .sums .now)) (l .pairs) (l .k) (omega arith) (l .inv .2))
 
 returns : tie.Need-returns Inv-loop μ-loop
-returns c = let l = c .before .loop in let at = c .before .before .before .args in l .inv .2 ∙ ap (λ (m : ℕ). pad 16 noEnergy (tabulate m (pairOf (at .t1) (at .sums .now)))) (omega arith)
+returns c =
+    let l = c .before .loop in
+    let at = c .before .before .before .args in
+    l .inv .2 ∙ ap (λ (m : ℕ). pad 16 noEnergy (tabulate m (pairOf (at .t1) (at .sums .now)))) (omega arith)
 
 pub pairs-of-spec : {M : Type 1} → statement M
 pairs-of-spec =

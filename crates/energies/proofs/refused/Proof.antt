@@ -1,3 +1,4 @@
+-- `energies::refused` meets its contract: the number, and zeros. Assumes nothing.
 use mathlib.Core.Path.{ap}
 use Rattle.energies.specs.declared.KeyEnergy.{KeyEnergy}
 use Rattle.energies.specs.declared.EnergiesAnswer.{EnergiesAnswer}

@@ -26,16 +26,24 @@ design-at-requires : tie.Need-design-at-requires Inv-loop μ-loop
 design-at-requires c κs = search needs
 
 size-requires : tie.Need-size-requires Inv-loop μ-loop
-size-requires c κs = omega (arith, at-fits (c .before .before .loop .inv) (c .before .loop-test .taken) (c .design-at .result) (c .design-at .ensures))
+size-requires c κs =
+    let design = c .design-at in
+    omega (arith, at-fits (c .before .before .loop .inv) (c .before .loop-test .taken) (design .result) (design .ensures))
 
 add-e : tie.Need-add-e Inv-loop μ-loop
-add-e c = omega (arith, at-fits (c .before .before .before .loop .inv) (c .before .before .loop-test .taken) (c .before .design-at .result) (c .before .design-at .ensures))
+add-e c =
+    let design = c .before .design-at in
+    omega (arith, at-fits (c .before .before .before .loop .inv) (c .before .before .loop-test .taken) (design .result) (design .ensures))
 
 mul-sums : tie.Need-mul-sums Inv-loop μ-loop
-mul-sums c = omega (arith, key-fits (c .before .before .before .before .before .pre .0) (c .before .before .loop-test .taken) (c .before .design-at .result) (c .before .design-at .ensures))
+mul-sums c =
+    let design = c .before .design-at in
+    omega (arith, key-fits (c .before .before .before .before .before .pre .0) (c .before .before .loop-test .taken) (design .result) (design .ensures))
 
 element-copy-out-sums : tie.Need-element-copy-out-sums Inv-loop μ-loop
-element-copy-out-sums c = omega (arith, key-fits (c .before .before .before .before .before .pre .0) (c .before .before .loop-test .taken) (c .before .design-at .result) (c .before .design-at .ensures))
+element-copy-out-sums c =
+    let design = c .before .design-at in
+    omega (arith, key-fits (c .before .before .before .before .before .pre .0) (c .before .before .loop-test .taken) (design .result) (design .ensures))
 
 mul-string-energy : tie.Need-mul-string-energy Inv-loop μ-loop
 mul-string-energy c = search needs
@@ -47,19 +55,29 @@ part-string-energy-start : tie.Need-part-string-energy-start Inv-loop μ-loop
 part-string-energy-start c = search needs
 
 part-string-energy-end : tie.Need-part-string-energy-end Inv-loop μ-loop
-part-string-energy-end c = omega (arith, at-fits (c .before .before .before .before .loop .inv) (c .before .before .before .loop-test .taken) (c .before .before .design-at .result) (c .before .before .design-at .ensures))
+part-string-energy-end c =
+    let design = c .before .before .design-at in
+    omega (arith, at-fits (c .before .before .before .before .loop .inv) (c .before .before .before .loop-test .taken) (design .result) (design .ensures))
 
 string-energy-requires : tie.Need-string-energy-requires Inv-loop μ-loop
 string-energy-requires c κs =
+    let start = c .before .before .before .before .before .before .before in
+    let taken = c .before .before .before .before .loop-test .taken in
     let design = c .before .before .before .design-at in
     let size = c .before .before .size in
-    at-strung (c .before .before .before .before .before .loop .inv) (c .before .before .before .before .loop-test .taken) (design .result) (design .ensures) (c .before .before .before .before .before .before .before .pre .0) (size .result) (size .ensures)
+    at-strung (c .before .before .before .before .before .loop .inv) taken (design .result) (design .ensures) (start .pre .0) (size .result) (size .ensures)
 
 mul-sums-2 : tie.Need-mul-sums-2 Inv-loop μ-loop
-mul-sums-2 c = omega (arith, key-fits (c .before .before .before .before .before .before .before .before .pre .0) (c .before .before .before .before .before .loop-test .taken) (c .before .before .before .before .design-at .result) (c .before .before .before .before .design-at .ensures))
+mul-sums-2 c =
+    let start = c .before .before .before .before .before .before .before .before in
+    let design = c .before .before .before .before .design-at in
+    omega (arith, key-fits (start .pre .0) (c .before .before .before .before .before .loop-test .taken) (design .result) (design .ensures))
 
 element-write-sums : tie.Need-element-write-sums Inv-loop μ-loop
-element-write-sums c = omega (arith, key-fits (c .before .before .before .before .before .before .before .before .pre .0) (c .before .before .before .before .before .loop-test .taken) (c .before .before .before .before .design-at .result) (c .before .before .before .before .design-at .ensures))
+element-write-sums c =
+    let start = c .before .before .before .before .before .before .before .before in
+    let design = c .before .before .before .before .design-at in
+    omega (arith, key-fits (start .pre .0) (c .before .before .before .before .before .loop-test .taken) (design .result) (design .ensures))
 
 add-i : tie.Need-add-i Inv-loop μ-loop
 add-i c = search needs
@@ -72,7 +90,8 @@ loop-again c =
     let here = c .before .before .before .before .before .before .loop in
     let design = c .before .before .before .before .design-at in
     let size = c .before .before .before .size in
-    turn-kept (here .inv) (c .before .before .before .before .before .loop-test .taken) (design .result) (design .ensures) (size .result) _ (size .ensures)
+    let taken = c .before .before .before .before .before .loop-test .taken in
+    turn-kept (here .inv) taken (design .result) (design .ensures) (size .result) _ (size .ensures)
     (ap (λ (e : Float). set (here .sums) (design .result .key) (add binary64 (getD (here .sums) (design .result .key) nan) e)) (c .string-energy .ensures))
 
 returns : tie.Need-returns Inv-loop μ-loop

@@ -1,4 +1,4 @@
--- `keys::bridge_speed` meets its contract. Assumes nothing.
+-- `keys::bridge_speed` meets its contract: it computes the definition. Assumes nothing.
 use mathlib.Core.Path.{refl}
 use Rattle.keys.specs.Keys.{speedOf}
 use Rattle.keys.proofs.bridge_speed.Statement.{statement}

@@ -1,4 +1,4 @@
--- `keys::bridge_speeds` meets its contract. The loop's invariant: what is left to do gives what the whole loop gives. Assumes nothing.
+-- `keys::bridge_speeds` meets its contract. The loop's invariant: what is left to do gives what the whole loop gives (`Folded` of crate cells). Assumes nothing.
 use mathlib.Core.Path.{ap, _∙_}
 use mathlib.Core.List.{List}
 use Prim.Native.Nat.{ℕ, _-_}
@@ -23,8 +23,8 @@ abbrev μ-loop : tie.MeasureT-loop
 loop-holds : tie.Need-loop-holds Inv-loop μ-loop
 loop-holds c = let at = c .args in folded-start (constantsAt (at .table .now)) (turn (at .yz) (at .total)) (at .n) (at .sums .now)
 
-key-at-requires : tie.Need-key-at-requires Inv-loop μ-loop
-key-at-requires c κs = omega arith
+constants-at-requires : tie.Need-constants-at-requires Inv-loop μ-loop
+constants-at-requires c κs = omega arith
 
 mul-bridge-speed : tie.Need-mul-bridge-speed Inv-loop μ-loop
 mul-bridge-speed c = omega arith
@@ -51,8 +51,10 @@ loop-again : tie.Need-loop-again Inv-loop μ-loop
 loop-again c =
     let here = c .before .before .before .before .loop in
     let at = c .before .before .before .before .before .args in
-    folded-turn (constantsAt (at .table .now)) (turn (at .yz) (at .total)) (at .n) (at .sums .now) (here .sums) _ (here .k) (here .inv) (c .before .before .before .loop-test .taken)
-    (ap (λ (x : Float). set (here .sums) (here .k) x) (c .bridge-speed .ensures ∙ ap (λ (key : KeyConstants). speedOf (at .yz) (at .total) key (getD (here .sums) (here .k) nan)) (c .before .before .key-at .ensures)))
+    let taken = c .before .before .before .loop-test .taken in
+    let key-is = ap (λ (key : KeyConstants). speedOf (at .yz) (at .total) key (getD (here .sums) (here .k) nan)) (c .before .before .constants-at .ensures) in
+    folded-turn (constantsAt (at .table .now)) (turn (at .yz) (at .total)) (at .n) (at .sums .now) (here .sums) _ (here .k) (here .inv) taken
+    (ap (λ (x : Float). set (here .sums) (here .k) x) (c .bridge-speed .ensures ∙ key-is))
 
 returns : tie.Need-returns Inv-loop μ-loop
 unfolding speeds
@@ -68,7 +70,7 @@ bridge-speeds-spec =
     Inv-loop
     μ-loop
     loop-holds
-    key-at-requires
+    constants-at-requires
     mul-bridge-speed
     element-copy-out-bridge-speed
     bridge-speed-requires

@@ -1,4 +1,4 @@
--- `keys::damper_after` meets its contract. Assumes nothing.
+-- `keys::damper_after` meets its contract: towards r_max where it is to be down, towards +0 else. Assumes nothing.
 use Rattle.keys.specs.Keys.{dampedOf}
 use borrow.Author.Needs.{needs}
 use Rattle.keys.proofs.damper_after.Statement.{statement}

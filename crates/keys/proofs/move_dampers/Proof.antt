@@ -1,4 +1,4 @@
--- `keys::move_dampers` meets its contract. The loop's invariant: what is left to do gives what the whole loop gives. Assumes nothing.
+-- `keys::move_dampers` meets its contract. The loop's invariant: what is left to do gives what the whole loop gives (`Folded` of crate cells). Assumes nothing.
 use mathlib.Core.Path.{ap, _∙_}
 use mathlib.Core.List.{List}
 use mathlib.Core.Bool.{Bool, false}
@@ -24,8 +24,8 @@ abbrev μ-loop : tie.MeasureT-loop
 loop-holds : tie.Need-loop-holds Inv-loop μ-loop
 loop-holds c = let at = c .args in folded-start (constantsAt (at .table .now)) (turn (at .down .now)) (at .n) (at .damper-r .now)
 
-key-at-requires : tie.Need-key-at-requires Inv-loop μ-loop
-key-at-requires c κs = omega arith
+constants-at-requires : tie.Need-constants-at-requires Inv-loop μ-loop
+constants-at-requires c κs = omega arith
 
 element-copy-out-damper-after : tie.Need-element-copy-out-damper-after Inv-loop μ-loop
 element-copy-out-damper-after c = omega arith
@@ -55,9 +55,11 @@ loop-again : tie.Need-loop-again Inv-loop μ-loop
 loop-again c =
     let here = c .before .before .before .before .before .loop in
     let at = c .before .before .before .before .before .before .args in
-    folded-turn (constantsAt (at .table .now)) (turn (at .down .now)) (at .n) (at .damper-r .now) (here .damper-r) _ (here .k) (here .inv) (c .before .before .before .before .loop-test .taken)
-    (ap (λ (x : Float). set (here .damper-r) (here .k) x)
-    (c .damper-after .ensures ∙ ap (λ (key : KeyConstants). dampedOf key (getD (at .down .now) (here .k) false) (getD (here .damper-r) (here .k) nan)) (c .before .before .before .key-at .ensures)))
+    let taken = c .before .before .before .before .loop-test .taken in
+    let constants = c .before .before .before .constants-at in
+    let key-is = ap (λ (key : KeyConstants). dampedOf key (getD (at .down .now) (here .k) false) (getD (here .damper-r) (here .k) nan)) (constants .ensures) in
+    folded-turn (constantsAt (at .table .now)) (turn (at .down .now)) (at .n) (at .damper-r .now) (here .damper-r) _ (here .k) (here .inv) taken
+    (ap (λ (x : Float). set (here .damper-r) (here .k) x) (c .damper-after .ensures ∙ key-is))
 
 returns : tie.Need-returns Inv-loop μ-loop
 unfolding dampers
@@ -73,7 +75,7 @@ move-dampers-spec =
     Inv-loop
     μ-loop
     loop-holds
-    key-at-requires
+    constants-at-requires
     element-copy-out-damper-after
     mul-damper-after
     element-copy-out-damper-after-2

@@ -1,4 +1,4 @@
--- `keys::sum_keys` meets its contract. The loop's invariant: what is left to do gives what the whole loop gives. Assumes nothing.
+-- `keys::sum_keys` meets its contract. The loop's invariant: what is left to do gives what the whole loop gives (`Folded` of crate cells). Assumes nothing.
 use mathlib.Core.Path.{ap}
 use mathlib.Core.List.{List}
 use Prim.Native.Nat.{ℕ, _-_}
@@ -29,10 +29,14 @@ design-at-requires : tie.Need-design-at-requires Inv-loop μ-loop
 design-at-requires c κs = omega arith
 
 mul-sums : tie.Need-mul-sums Inv-loop μ-loop
-mul-sums c = omega (arith, key-fits (c .before .before .before .before .pre .0) (c .before .loop-test .taken) (c .design-at .result) (c .design-at .ensures))
+mul-sums c =
+    let design = c .design-at in
+    omega (arith, key-fits (c .before .before .before .before .pre .0) (c .before .loop-test .taken) (design .result) (design .ensures))
 
 element-copy-out-sums : tie.Need-element-copy-out-sums Inv-loop μ-loop
-element-copy-out-sums c = omega (arith, key-fits (c .before .before .before .before .pre .0) (c .before .loop-test .taken) (c .design-at .result) (c .design-at .ensures))
+element-copy-out-sums c =
+    let design = c .design-at in
+    omega (arith, key-fits (c .before .before .before .before .pre .0) (c .before .loop-test .taken) (design .result) (design .ensures))
 
 mul-sums-2 : tie.Need-mul-sums-2 Inv-loop μ-loop
 mul-sums-2 c = omega arith
@@ -41,10 +45,14 @@ shared-slice-read-sums : tie.Need-shared-slice-read-sums Inv-loop μ-loop
 shared-slice-read-sums c = omega arith
 
 mul-sums-3 : tie.Need-mul-sums-3 Inv-loop μ-loop
-mul-sums-3 c = omega (arith, key-fits (c .before .before .before .before .before .before .pre .0) (c .before .before .before .loop-test .taken) (c .before .before .design-at .result) (c .before .before .design-at .ensures))
+mul-sums-3 c =
+    let design = c .before .before .design-at in
+    omega (arith, key-fits (c .before .before .before .before .before .before .pre .0) (c .before .before .before .loop-test .taken) (design .result) (design .ensures))
 
 element-write-sums : tie.Need-element-write-sums Inv-loop μ-loop
-element-write-sums c = omega (arith, key-fits (c .before .before .before .before .before .before .pre .0) (c .before .before .before .loop-test .taken) (c .before .before .design-at .result) (c .before .before .design-at .ensures))
+element-write-sums c =
+    let design = c .before .before .design-at in
+    omega (arith, key-fits (c .before .before .before .before .before .before .pre .0) (c .before .before .before .loop-test .taken) (design .result) (design .ensures))
 
 add-i : tie.Need-add-i Inv-loop μ-loop
 add-i c = omega arith

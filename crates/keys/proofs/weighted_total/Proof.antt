@@ -1,4 +1,4 @@
--- `keys::weighted_total` meets its contract. The loop's invariant: what is left to do gives what the whole loop gives. Assumes nothing.
+-- `keys::weighted_total` meets its contract. The loop's invariant: what is left to do gives what the whole loop gives (`Folded` of crate cells). Assumes nothing.
 use Rattle.float.specs.Float.{zero as +0}
 use mathlib.Core.Path.{ap}
 use mathlib.Core.List.{List}
@@ -24,8 +24,8 @@ abbrev μ-loop : tie.MeasureT-loop
 loop-holds : tie.Need-loop-holds Inv-loop μ-loop
 loop-holds c = let at = c .args in folded-start (constantsAt (at .table .now)) (turn (at .sums .now)) (at .n) +0
 
-key-at-requires : tie.Need-key-at-requires Inv-loop μ-loop
-key-at-requires c κs = omega arith
+constants-at-requires : tie.Need-constants-at-requires Inv-loop μ-loop
+constants-at-requires c κs = omega arith
 
 mul-total : tie.Need-mul-total Inv-loop μ-loop
 mul-total c = omega arith
@@ -44,7 +44,7 @@ loop-again c =
     let here = c .before .before .before .before .loop in
     let at = c .before .before .before .before .before .args in
     folded-turn (constantsAt (at .table .now)) (turn (at .sums .now)) (at .n) +0 (here .total) _ (here .k) (here .inv) (c .before .before .before .loop-test .taken)
-    (ap (λ (key : KeyConstants). turn (at .sums .now) (here .k) key (here .total)) (c .before .before .key-at .ensures))
+    (ap (λ (key : KeyConstants). turn (at .sums .now) (here .k) key (here .total)) (c .before .before .constants-at .ensures))
 
 returns : tie.Need-returns Inv-loop μ-loop
 unfolding weightedTotal
@@ -60,7 +60,7 @@ weighted-total-spec =
     Inv-loop
     μ-loop
     loop-holds
-    key-at-requires
+    constants-at-requires
     mul-total
     element-copy-out-total
     add-k

@@ -1,4 +1,4 @@
--- `points::add_force` meets its contract. Assumes nothing.
+-- `points::add_force` meets its contract: force_sum grows, and a force above 0 is a contact. Assumes nothing.
 use Rattle.points.specs.Points.{summed}
 use Rattle.points.proofs.add_force.Statement.{statement}
 use Rattle.points.proofs.add_force.Tie as tie

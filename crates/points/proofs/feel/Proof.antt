@@ -1,4 +1,4 @@
--- `points::feel` meets its contract. Assumes nothing.
+-- `points::feel` meets its contract: the hammer rests, flies at this key, or flies at another. Assumes nothing.
 use Rattle.points.specs.Points.{contactOf}
 use borrow.Author.Tests.{eq-eqb, ne-eqb}
 use borrow.Author.Needs.{needs}

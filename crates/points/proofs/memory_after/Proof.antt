@@ -1,4 +1,4 @@
--- `points::memory_after` meets its contract. Assumes nothing.
+-- `points::memory_after` meets its contract: the two cases of tau. Assumes nothing.
 use Rattle.points.specs.Points.{remembered}
 use borrow.Author.Needs.{needs}
 use Rattle.points.proofs.memory_after.Statement.{statement}

@@ -9,32 +9,11 @@ use borrow.Author.Needs.{needs}
 use Rattle.points.proofs.strike_string.Statement.{statement}
 use Rattle.points.proofs.strike_string.Tie as tie
 
-add-y : tie.Need-add-y
-add-y c = search needs
+at-y-s-requires : tie.Need-at-y-s-requires
+at-y-s-requires c κs = search needs
 
-add-y-2 : tie.Need-add-y-2
-add-y-2 c = search needs
-
-add-y-3 : tie.Need-add-y-3
-add-y-3 c = search needs
-
-add-y-4 : tie.Need-add-y-4
-add-y-4 c = search needs
-
-add-y-5 : tie.Need-add-y-5
-add-y-5 c = search needs
-
-mul-y : tie.Need-mul-y
-mul-y c = search needs
-
-add-y-6 : tie.Need-add-y-6
-add-y-6 c = search needs
-
-add-y-7 : tie.Need-add-y-7
-add-y-7 c = search needs
-
-add-m : tie.Need-add-m
-add-m c = search needs
+at-memory-requires : tie.Need-at-memory-requires
+at-memory-requires c κs = search needs
 
 read-string-requires : tie.Need-read-string-requires
 read-string-requires c κs = search needs
@@ -58,19 +37,22 @@ inject-requires : tie.Need-inject-requires
 inject-requires c κs = search needs
 
 mul-part : tie.Need-mul-part
-mul-part c = let start = c .before .before .before .before .before .before .before .before .before .before .before .before .before .before .before in omega (arith, start .pre .0 .all, start .good)
+mul-part c = search needs
 
 slice-write-part : tie.Need-slice-write-part
-slice-write-part c = let start = c .before .before .before .before .before .before .before .before .before .before .before .before .before .before .before in omega (arith, start .pre .0 .all, start .good)
+slice-write-part c = search needs
 
 mul-part-2 : tie.Need-mul-part-2
-mul-part-2 c = let start = c .before .before .before .before .before .before .before .before .before .before .before .before .before .before .before .before .before in omega (arith, start .pre .0 .all, start .good)
+mul-part-2 c = search needs
 
 slice-write-part-2 : tie.Need-slice-write-part-2
-slice-write-part-2 c = let start = c .before .before .before .before .before .before .before .before .before .before .before .before .before .before .before .before .before in simp length-set (omega (arith, start .pre .0 .all, start .good))
+slice-write-part-2 c =
+    let y = c .before .before .before .before .before .before .before .before .before .before .before in
+    let long = y .before .before .pre .0 .all in
+    simp length-set (omega (arith, y .at-y-s .ensures, long))
 
 write-string-requires : tie.Need-write-string-requires
-write-string-requires c κs = let start = c .before .before .before .before .before .before .before .before .before .before .before .before .before .before .before .before .before .before .pre in (record { sound = start .0 .sound; all = simp length-set (start .0 .all) }, start .1)
+write-string-requires c κs = search needs
 
 same-length : tie.Need-same-length
 same-length c = c .before .before .write-string .kept .0 ∙ simp length-set
@@ -78,27 +60,26 @@ same-length c = c .before .before .write-string .kept .0 ∙ simp length-set
 returns : tie.Need-returns
 unfolding struck
 returns c =
-    let at = c .before .before .before .before .before .before .before .before .before .before .before .before .before .before .before .before .before .before .before .before .before .args in
-    let touch = c .before .before .before .before .before .before .before .before .before .feel .ensures in
-    let read = c .before .before .before .before .before .before .before .before .before .before .before .before .read-string .ensures in
-    let injected = c .before .before .before .before .before .before .inject .ensures in (
-      ap (λ (x : Contact). x .force) touch ∙ ap (λ (r : Reads). contactAt (at .c) (at .h) (at .d) r (at .part .now) .force) read,
-      rw (← read, ← touch, ← injected) (c .before .before .write-string .ensures),
+    let written = c .before .before in
+    let injected = written .before .before .before .before in
+    let felt = injected .before .before .before in
+    let read = felt .before .before .before in
+    let m = read .before .before in
+    let y = m .before in
+    let at = y .before .before .args in
+    let reads = read .read-string .ensures in
+    let touch = rw (y .at-y-s .ensures, m .at-memory .ensures) at (felt .feel .ensures) in
+    let cells = rw (y .at-y-s .ensures, m .at-memory .ensures) at (written .write-string .ensures) in (
+      ap (λ (x : Contact). x .force) touch ∙ ap (λ (r : Reads). contactAt (at .c) (at .h) (at .d) r (at .part .now) .force) reads,
+      rw (← reads, ← touch, ← injected .inject .ensures) cells,
     )
 
 pub strike-string-spec : {M : Type 1} → statement M
 strike-string-spec =
     tie.close
     (tie.spec
-    add-y
-    add-y-2
-    add-y-3
-    add-y-4
-    add-y-5
-    mul-y
-    add-y-6
-    add-y-7
-    add-m
+    at-y-s-requires
+    at-memory-requires
     read-string-requires
     mul-y-s
     slice-read-y-s

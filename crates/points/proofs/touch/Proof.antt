@@ -1,4 +1,4 @@
--- `points::touch` meets its contract. Assumes nothing.
+-- `points::touch` meets its contract: the steps of the definition, in its order. Assumes nothing.
 use Rattle.points.specs.Points.{touched}
 use borrow.Author.Needs.{needs}
 use Rattle.points.proofs.touch.Statement.{statement}

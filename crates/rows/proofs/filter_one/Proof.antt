@@ -1,6 +1,7 @@
 -- `rows::filter_one` meets its contract: the string is moved on, and no other. Assumes nothing.
 use mathlib.Core.Path.{_∙_}
-use Prim.Native.Nat.{_+_, _-_}
+use Prim.Native.Nat.{_+_, _-_, _≤_}
+use lib.ListN.{length}
 use native.Mathlib.Omega.{arith}
 use Rattle.string.specs.Table.{designAt}
 use borrow.Author.Needs.{needs}
@@ -24,8 +25,9 @@ size-requires c κs =
     let fits = string-fits (designAt (args .lengths .now) (args .coefficients .now)) (args .i) (args .i + 1) (omega arith) (design .result) (design .ensures) in
     omega (arith, fits, room, start .pre .1 .1 .0)
 
-add-e : tie.Need-add-e
-add-e c =
+-- the string's cells lie within the part
+within : (c : tie.After-size) → c .before .before .before .before .args .first + c .size .result ≤ length (c .before .before .before .before .args .part .now)
+within c =
     let start = c .before .before .before .before in
     let args = start .args in
     let room = start .pre .0 .room in
@@ -33,61 +35,37 @@ add-e c =
     let fits = string-fits (designAt (args .lengths .now) (args .coefficients .now)) (args .i) (args .i + 1) (omega arith) (design .result) (design .ensures) in
     omega (arith, fits, room, start .pre .1 .1 .0, c .size .ensures)
 
+add-e : tie.Need-add-e
+add-e c = omega (arith, within c)
+
 indices-at-requires : tie.Need-indices-at-requires
 indices-at-requires c κs =
     let few = c .before .before .before .before .pre .0 in
     omega (arith, few .known)
 
 mul-filter-string : tie.Need-mul-filter-string
-mul-filter-string c =
-    let start = c .before .before .before .before .before in
-    let args = start .args in
-    let room = start .pre .0 .room in
-    let design = c .before .before .design-at in
-    let fits = string-fits (designAt (args .lengths .now) (args .coefficients .now)) (args .i) (args .i + 1) (omega arith) (design .result) (design .ensures) in
-    omega (arith, fits, room, start .pre .1 .1 .0, c .before .size .ensures)
+mul-filter-string c = omega (arith, within (c .before))
 
 sub-filter-string : tie.Need-sub-filter-string
-sub-filter-string c =
-    let start = c .before .before .before .before .before in
-    let args = start .args in
-    let room = start .pre .0 .room in
-    let design = c .before .before .design-at in
-    let fits = string-fits (designAt (args .lengths .now) (args .coefficients .now)) (args .i) (args .i + 1) (omega arith) (design .result) (design .ensures) in
-    omega (arith, fits, room, start .pre .1 .1 .0, c .before .size .ensures)
+sub-filter-string c = omega (arith, within (c .before))
 
 part-filter-string-start : tie.Need-part-filter-string-start
-part-filter-string-start c =
-    let start = c .before .before .before .before .before in
-    let args = start .args in
-    let room = start .pre .0 .room in
-    let design = c .before .before .design-at in
-    let fits = string-fits (designAt (args .lengths .now) (args .coefficients .now)) (args .i) (args .i + 1) (omega arith) (design .result) (design .ensures) in
-    omega (arith, fits, room, start .pre .1 .1 .0, c .before .size .ensures)
+part-filter-string-start c = omega (arith, within (c .before))
 
 part-filter-string-end : tie.Need-part-filter-string-end
-part-filter-string-end c =
-    let start = c .before .before .before .before .before in
-    let args = start .args in
-    let room = start .pre .0 .room in
-    let design = c .before .before .design-at in
-    let fits = string-fits (designAt (args .lengths .now) (args .coefficients .now)) (args .i) (args .i + 1) (omega arith) (design .result) (design .ensures) in
-    omega (arith, fits, room, start .pre .1 .1 .0, c .before .size .ensures)
+part-filter-string-end c = omega (arith, within (c .before))
 
 filter-string-requires : tie.Need-filter-string-requires
 filter-string-requires c κs =
     let start = c .before .before .before .before .before .before in
     let args = start .args in
-    let few = start .pre .0 in
-    let room = few .room in
     let design = c .before .before .before .design-at in
     let is = design .ensures in
     let size = c .before .before .size in
-    let indices = c .before .indices-at in
-    let fits = string-fits (designAt (args .lengths .now) (args .coefficients .now)) (args .i) (args .i + 1) (omega arith) (design .result) is in (
+    let indices = c .before .indices-at in (
       record {
-        sound = rw is (few .fit (args .i) (omega arith) .sound);
-        all = lent-length (args .first) (size .result) (args .part .now) (omega (arith, fits, room, size .ensures, start .pre .1 .1 .0)) ∙ size .ensures;
+        sound = rw is (start .pre .0 .fit (args .i) (omega arith) .sound);
+        all = lent-length (args .first) (size .result) (args .part .now) (within (c .before .before)) ∙ size .ensures;
       },
       index-fits (start .pre .1 .0) (omega arith) (design .result) is (indices .result) (indices .ensures),
     )

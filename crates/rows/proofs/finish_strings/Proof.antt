@@ -1,11 +1,12 @@
 -- `rows::finish_strings` meets its contract. The loop's invariant: l strings are finished, and string i + l starts at `at`. Assumes nothing.
 use mathlib.Core.Path.{_≡_, refl, ap, _∙_}
-use Prim.Native.Nat.{ℕ, _+_, _-_, _*_, _≤_}
+use Prim.Native.Nat.{ℕ, _+_, _-_, _*_, _≤_, _<_}
+use lib.ListN.{length}
 use native.Mathlib.Omega.{arith}
 use Rattle.string.specs.Table.{designAt}
 use Rattle.cells.specs.Together.{moved-none}
-use Rattle.rows.specs.Rows.{rowStart, Finished}
-use Rattle.rows.specs.Laws.{string-fits, on-length, on-none, finished-turn}
+use Rattle.rows.specs.Rows.{stringStart, Finished}
+use Rattle.rows.specs.Laws.{string-fits, on-fits, on-length, on-none, finished-turn}
 use Rattle.rows.proofs.finish_strings.Statement.{statement}
 use Rattle.rows.proofs.finish_strings.Tie as tie
 
@@ -31,25 +32,33 @@ loop-holds c =
       record {
         cells = on-none f (args .i) _ (args .part .now);
         outputs = moved-none (λ j. j) (λ j. 1) (λ j. refl) (args .i) _ (args .v-in .now);
-        end = start .pre .1 .1 .0 ∙ ap (λ (k : ℕ). rowStart f k) none;
+        end = start .pre .1 .1 .0 ∙ ap (λ (k : ℕ). stringStart f k) none;
       },
     )
 
+-- string i + l is one of four, and one of the tables' 32
+known : (c : tie.In-loop Inv-loop μ-loop) → (c .before .loop .l < 4) × (c .before .before .before .before .before .args .i + c .before .loop .l < 32)
+known c =
+    let few = c .before .before .before .before .before .pre .0 in
+    (omega (arith, few .few, few .known, c .loop-test .taken), omega (arith, few .few, few .known, c .loop-test .taken))
+
+-- its cells, from `at` on, lie within the part
+within : (c : tie.After-size Inv-loop μ-loop)
+    → (c .before .before .before .loop .at + c .size .result ≤ length (c .before .before .before .loop .part))
+    × (length (c .before .before .before .loop .part) ≡ length (c .before .before .before .before .before .before .before .args .part .now))
+within c =
+    let start = c .before .before .before .before .before .before .before in
+    let here = c .before .before .before .loop in
+    let f = designAt (start .args .lengths .now) (start .args .coefficients .now) in
+    let size = rw (c .before .design-at .ensures) at (c .size .ensures) in
+    let done = here .inv .1 in
+    (on-fits f (done .cells) (start .pre .0 .room) (c .before .before .loop-test .taken) (here .at) (c .size .result) (done .end) size, done .cells .same)
+
 add-design-at : tie.Need-add-design-at Inv-loop μ-loop
-add-design-at c =
-    let start = c .before .before .before .before .before in
-    let args = start .args in
-    let few = start .pre .0 in
-    let here = c .before .loop in
-    omega (arith, few .few, few .known, c .loop-test .taken)
+add-design-at c = omega (arith, known c)
 
 design-at-requires : tie.Need-design-at-requires Inv-loop μ-loop
-design-at-requires c κs =
-    let start = c .before .before .before .before .before in
-    let args = start .args in
-    let few = start .pre .0 in
-    let here = c .before .loop in
-    omega (arith, few .few, few .known, c .loop-test .taken)
+design-at-requires c κs = omega (arith, known c)
 
 size-requires : tie.Need-size-requires Inv-loop μ-loop
 size-requires c κs =
@@ -65,85 +74,25 @@ size-requires c κs =
     omega (arith, fits, room, long, end)
 
 add-e : tie.Need-add-e Inv-loop μ-loop
-add-e c =
-    let start = c .before .before .before .before .before .before .before in
-    let args = start .args in
-    let few = start .pre .0 in
-    let here = c .before .before .before .loop in
-    let design = c .before .design-at in
-    let fits = string-fits (designAt (args .lengths .now) (args .coefficients .now)) (args .i + here .l) (args .i + args .m) (omega arith) (design .result) (design .ensures) in
-    let room = few .room in
-    let long = here .inv .1 .cells .same in
-    let end = here .inv .1 .end in
-    omega (arith, fits, room, long, end, c .size .ensures)
+add-e c = omega (arith, within c)
 
 mul-finish-filter : tie.Need-mul-finish-filter Inv-loop μ-loop
-mul-finish-filter c =
-    let start = c .before .before .before .before .before .before .before in
-    let args = start .args in
-    let few = start .pre .0 in
-    let here = c .before .before .before .loop in
-    let design = c .before .design-at in
-    let fits = string-fits (designAt (args .lengths .now) (args .coefficients .now)) (args .i + here .l) (args .i + args .m) (omega arith) (design .result) (design .ensures) in
-    let room = few .room in
-    let long = here .inv .1 .cells .same in
-    let end = here .inv .1 .end in
-    omega (arith, fits, room, long, end, c .size .ensures)
+mul-finish-filter c = omega (arith, within c)
 
 sub-finish-filter : tie.Need-sub-finish-filter Inv-loop μ-loop
-sub-finish-filter c =
-    let start = c .before .before .before .before .before .before .before in
-    let args = start .args in
-    let few = start .pre .0 in
-    let here = c .before .before .before .loop in
-    let design = c .before .design-at in
-    let fits = string-fits (designAt (args .lengths .now) (args .coefficients .now)) (args .i + here .l) (args .i + args .m) (omega arith) (design .result) (design .ensures) in
-    let room = few .room in
-    let long = here .inv .1 .cells .same in
-    let end = here .inv .1 .end in
-    omega (arith, fits, room, long, end, c .size .ensures)
+sub-finish-filter c = omega (arith, within c)
 
 part-finish-filter-start : tie.Need-part-finish-filter-start Inv-loop μ-loop
-part-finish-filter-start c =
-    let start = c .before .before .before .before .before .before .before in
-    let args = start .args in
-    let few = start .pre .0 in
-    let here = c .before .before .before .loop in
-    let design = c .before .design-at in
-    let fits = string-fits (designAt (args .lengths .now) (args .coefficients .now)) (args .i + here .l) (args .i + args .m) (omega arith) (design .result) (design .ensures) in
-    let room = few .room in
-    let long = here .inv .1 .cells .same in
-    let end = here .inv .1 .end in
-    omega (arith, fits, room, long, end, c .size .ensures)
+part-finish-filter-start c = omega (arith, within c)
 
 part-finish-filter-end : tie.Need-part-finish-filter-end Inv-loop μ-loop
-part-finish-filter-end c =
-    let start = c .before .before .before .before .before .before .before in
-    let args = start .args in
-    let few = start .pre .0 in
-    let here = c .before .before .before .loop in
-    let design = c .before .design-at in
-    let fits = string-fits (designAt (args .lengths .now) (args .coefficients .now)) (args .i + here .l) (args .i + args .m) (omega arith) (design .result) (design .ensures) in
-    let room = few .room in
-    let long = here .inv .1 .cells .same in
-    let end = here .inv .1 .end in
-    omega (arith, fits, room, long, end, c .size .ensures)
+part-finish-filter-end c = omega (arith, within c)
 
 mul-finish-filter-2 : tie.Need-mul-finish-filter-2 Inv-loop μ-loop
-mul-finish-filter-2 c =
-    let start = c .before .before .before .before .before .before .before .before in
-    let args = start .args in
-    let few = start .pre .0 in
-    let here = c .before .before .before .before .loop in
-    omega (arith, few .few, few .known, c .before .before .before .loop-test .taken)
+mul-finish-filter-2 c = omega (arith, known (c .before .before .before))
 
 element-copy-out-finish-filter : tie.Need-element-copy-out-finish-filter Inv-loop μ-loop
-element-copy-out-finish-filter c =
-    let start = c .before .before .before .before .before .before .before .before in
-    let args = start .args in
-    let few = start .pre .0 in
-    let here = c .before .before .before .before .loop in
-    omega (arith, few .few, few .known, c .before .before .before .loop-test .taken)
+element-copy-out-finish-filter c = omega (arith, known (c .before .before .before))
 
 finish-filter-requires : tie.Need-finish-filter-requires Inv-loop μ-loop
 finish-filter-requires c κs =
@@ -165,39 +114,19 @@ finish-filter-requires c κs =
     )
 
 add-v-in : tie.Need-add-v-in Inv-loop μ-loop
-add-v-in c =
-    let start = c .before .before .before .before .before .before .before .before .before .before .before .before in
-    let args = start .args in
-    let few = start .pre .0 in
-    let here = c .before .before .before .before .before .before .before .before .loop in
-    let long = here .inv .1 .outputs .same in
-    omega (arith, few .known, c .before .before .before .before .before .before .before .loop-test .taken, start .pre .1 .1 .1, long)
+add-v-in c = omega (arith, known (c .before .before .before .before .before .before .before))
 
 mul-v-in : tie.Need-mul-v-in Inv-loop μ-loop
-mul-v-in c =
-    let start = c .before .before .before .before .before .before .before .before .before .before .before .before in
-    let args = start .args in
-    let few = start .pre .0 in
-    let here = c .before .before .before .before .before .before .before .before .loop in
-    let long = here .inv .1 .outputs .same in
-    omega (arith, few .known, c .before .before .before .before .before .before .before .loop-test .taken, start .pre .1 .1 .1, long)
+mul-v-in c = omega (arith, known (c .before .before .before .before .before .before .before))
 
 slice-write-v-in : tie.Need-slice-write-v-in Inv-loop μ-loop
 slice-write-v-in c =
     let start = c .before .before .before .before .before .before .before .before .before .before .before .before in
-    let args = start .args in
-    let few = start .pre .0 in
-    let here = c .before .before .before .before .before .before .before .before .loop in
-    let long = here .inv .1 .outputs .same in
-    omega (arith, few .known, c .before .before .before .before .before .before .before .loop-test .taken, start .pre .1 .1 .1, long)
+    let long = c .before .before .before .before .before .before .before .before .loop .inv .1 .outputs .same in
+    omega (arith, c .before .before .before .before .before .before .before .loop-test .taken, start .pre .1 .1 .1, long)
 
 add-l : tie.Need-add-l Inv-loop μ-loop
-add-l c =
-    let start = c .before .before .before .before .before .before .before .before .before .before .before .before in
-    let args = start .args in
-    let few = start .pre .0 in
-    let here = c .before .before .before .before .before .before .before .before .loop in
-    omega (arith, few .few, few .known, c .before .before .before .before .before .before .before .loop-test .taken)
+add-l c = omega (arith, known (c .before .before .before .before .before .before .before))
 
 loop-less : tie.Need-loop-less Inv-loop μ-loop
 loop-less c = omega arith

@@ -1,18 +1,19 @@
 -- `rows::start_strings` meets its contract. The loop's invariant: l strings have started, and string i + l starts at `at`. Assumes nothing.
 use mathlib.Core.Path.{_≡_, refl, sym, ap, _∙_}
-use Prim.Native.Nat.{ℕ, _+_, _-_, _≤_}
+use Prim.Native.Nat.{ℕ, _+_, _-_, _≤_, _<_}
+use lib.ListN.{length}
 use native.Mathlib.Omega.{arith}
 use Rattle.string.specs.String.{sizeOf}
 use Rattle.string.specs.Table.{designAt}
 use Rattle.strings.specs.Laws.{index-fits}
-use Rattle.rows.specs.Rows.{rowStart, Started}
-use Rattle.rows.specs.Laws.{string-fits, start-after, on-length, on-none, started-turn}
+use Rattle.rows.specs.Rows.{stringStart, Started}
+use Rattle.rows.specs.Laws.{string-fits, start-after, on-fits, on-length, on-none, started-turn}
 use Rattle.rows.proofs.start_strings.Statement.{statement}
 use Rattle.rows.proofs.start_strings.Tie as tie
 
 abbrev Inv-loop : tie.InvT-loop
 Inv-loop part₀ lengths coefficients indices first i m t v₀ at₀ l₀ part v at l =
-    (l ≤ m) × (at ≡ rowStart (designAt lengths coefficients) (i + l)) × Started (designAt lengths coefficients) i l t part₀ part v
+    (l ≤ m) × (at ≡ stringStart (designAt lengths coefficients) (i + l)) × Started (designAt lengths coefficients) i l t part₀ part v
 
 abbrev μ-loop : tie.MeasureT-loop
 μ-loop part₀ lengths coefficients indices first i m t v₀ at₀ l₀ part v at l = m - l
@@ -24,25 +25,32 @@ loop-holds c =
     let f = designAt (args .lengths .now) (args .coefficients .now) in
     let none : args .i ≡ args .i + 0 = omega arith in (
       omega arith,
-      start .pre .1 .1 ∙ ap (λ (k : ℕ). rowStart f k) none,
+      start .pre .1 .1 ∙ ap (λ (k : ℕ). stringStart f k) none,
       record { long = refl; cells = on-none f (args .i) _ (args .part .now); values = λ l h. let z : ⊥ = omega arith in absurd z },
     )
 
+-- string i + l is one of four, and one of the tables' 32
+known : (c : tie.In-loop Inv-loop μ-loop) → (c .before .loop .l < 4) × (c .before .before .before .args .i + c .before .loop .l < 32)
+known c =
+    let few = c .before .before .before .pre .0 in
+    (omega (arith, few .few, few .known, c .loop-test .taken), omega (arith, few .few, few .known, c .loop-test .taken))
+
+-- its cells, from `at` on, lie within the part
+within : (c : tie.After-size Inv-loop μ-loop)
+    → (c .before .before .before .loop .at + c .size .result ≤ length (c .before .before .before .loop .part))
+    × (length (c .before .before .before .loop .part) ≡ length (c .before .before .before .before .before .args .part .now))
+within c =
+    let start = c .before .before .before .before .before in
+    let here = c .before .before .before .loop in
+    let f = designAt (start .args .lengths .now) (start .args .coefficients .now) in
+    let size = rw (c .before .design-at .ensures) at (c .size .ensures) in
+    (on-fits f (here .inv .2 .cells) (start .pre .0 .room) (c .before .before .loop-test .taken) (here .at) (c .size .result) (here .inv .1) size, here .inv .2 .cells .same)
+
 add-design-at : tie.Need-add-design-at Inv-loop μ-loop
-add-design-at c =
-    let start = c .before .before .before in
-    let args = start .args in
-    let few = start .pre .0 in
-    let here = c .before .loop in
-    omega (arith, few .few, few .known, c .loop-test .taken)
+add-design-at c = omega (arith, known c)
 
 design-at-requires : tie.Need-design-at-requires Inv-loop μ-loop
-design-at-requires c κs =
-    let start = c .before .before .before in
-    let args = start .args in
-    let few = start .pre .0 in
-    let here = c .before .loop in
-    omega (arith, few .few, few .known, c .loop-test .taken)
+design-at-requires c κs = omega (arith, known c)
 
 size-requires : tie.Need-size-requires Inv-loop μ-loop
 size-requires c κs =
@@ -57,80 +65,25 @@ size-requires c κs =
     omega (arith, fits, room, long, here .inv .1)
 
 add-e : tie.Need-add-e Inv-loop μ-loop
-add-e c =
-    let start = c .before .before .before .before .before in
-    let args = start .args in
-    let few = start .pre .0 in
-    let here = c .before .before .before .loop in
-    let design = c .before .design-at in
-    let fits = string-fits (designAt (args .lengths .now) (args .coefficients .now)) (args .i + here .l) (args .i + args .m) (omega arith) (design .result) (design .ensures) in
-    let room = few .room in
-    let long = here .inv .2 .cells .same in
-    omega (arith, fits, room, long, here .inv .1, c .size .ensures)
+add-e c = omega (arith, within c)
 
 add-indices-at : tie.Need-add-indices-at Inv-loop μ-loop
-add-indices-at c =
-    let start = c .before .before .before .before .before in
-    let args = start .args in
-    let few = start .pre .0 in
-    let here = c .before .before .before .loop in
-    omega (arith, few .few, few .known, c .before .before .loop-test .taken)
+add-indices-at c = omega (arith, known (c .before .before))
 
 indices-at-requires : tie.Need-indices-at-requires Inv-loop μ-loop
-indices-at-requires c κs =
-    let start = c .before .before .before .before .before in
-    let args = start .args in
-    let few = start .pre .0 in
-    let here = c .before .before .before .loop in
-    omega (arith, few .few, few .known, c .before .before .loop-test .taken)
+indices-at-requires c κs = omega (arith, known (c .before .before))
 
 mul-start-filter : tie.Need-mul-start-filter Inv-loop μ-loop
-mul-start-filter c =
-    let start = c .before .before .before .before .before .before in
-    let args = start .args in
-    let few = start .pre .0 in
-    let here = c .before .before .before .before .loop in
-    let design = c .before .before .design-at in
-    let fits = string-fits (designAt (args .lengths .now) (args .coefficients .now)) (args .i + here .l) (args .i + args .m) (omega arith) (design .result) (design .ensures) in
-    let room = few .room in
-    let long = here .inv .2 .cells .same in
-    omega (arith, fits, room, long, here .inv .1, c .before .size .ensures)
+mul-start-filter c = omega (arith, within (c .before))
 
 sub-start-filter : tie.Need-sub-start-filter Inv-loop μ-loop
-sub-start-filter c =
-    let start = c .before .before .before .before .before .before in
-    let args = start .args in
-    let few = start .pre .0 in
-    let here = c .before .before .before .before .loop in
-    let design = c .before .before .design-at in
-    let fits = string-fits (designAt (args .lengths .now) (args .coefficients .now)) (args .i + here .l) (args .i + args .m) (omega arith) (design .result) (design .ensures) in
-    let room = few .room in
-    let long = here .inv .2 .cells .same in
-    omega (arith, fits, room, long, here .inv .1, c .before .size .ensures)
+sub-start-filter c = omega (arith, within (c .before))
 
 part-start-filter-start : tie.Need-part-start-filter-start Inv-loop μ-loop
-part-start-filter-start c =
-    let start = c .before .before .before .before .before .before in
-    let args = start .args in
-    let few = start .pre .0 in
-    let here = c .before .before .before .before .loop in
-    let design = c .before .before .design-at in
-    let fits = string-fits (designAt (args .lengths .now) (args .coefficients .now)) (args .i + here .l) (args .i + args .m) (omega arith) (design .result) (design .ensures) in
-    let room = few .room in
-    let long = here .inv .2 .cells .same in
-    omega (arith, fits, room, long, here .inv .1, c .before .size .ensures)
+part-start-filter-start c = omega (arith, within (c .before))
 
 part-start-filter-end : tie.Need-part-start-filter-end Inv-loop μ-loop
-part-start-filter-end c =
-    let start = c .before .before .before .before .before .before in
-    let args = start .args in
-    let few = start .pre .0 in
-    let here = c .before .before .before .before .loop in
-    let design = c .before .before .design-at in
-    let fits = string-fits (designAt (args .lengths .now) (args .coefficients .now)) (args .i + here .l) (args .i + args .m) (omega arith) (design .result) (design .ensures) in
-    let room = few .room in
-    let long = here .inv .2 .cells .same in
-    omega (arith, fits, room, long, here .inv .1, c .before .size .ensures)
+part-start-filter-end c = omega (arith, within (c .before))
 
 start-filter-requires : tie.Need-start-filter-requires Inv-loop μ-loop
 start-filter-requires c κs =
@@ -152,28 +105,13 @@ start-filter-requires c κs =
     )
 
 mul-v : tie.Need-mul-v Inv-loop μ-loop
-mul-v c =
-    let start = c .before .before .before .before .before .before .before .before .before .before in
-    let args = start .args in
-    let few = start .pre .0 in
-    let here = c .before .before .before .before .before .before .before .before .loop in
-    omega (arith, few .few, few .known, c .before .before .before .before .before .before .before .loop-test .taken)
+mul-v c = omega (arith, known (c .before .before .before .before .before .before .before))
 
 array-write-v : tie.Need-array-write-v Inv-loop μ-loop
-array-write-v c =
-    let start = c .before .before .before .before .before .before .before .before .before .before in
-    let args = start .args in
-    let few = start .pre .0 in
-    let here = c .before .before .before .before .before .before .before .before .loop in
-    omega (arith, few .few, few .known, c .before .before .before .before .before .before .before .loop-test .taken)
+array-write-v c = omega (arith, known (c .before .before .before .before .before .before .before))
 
 add-l : tie.Need-add-l Inv-loop μ-loop
-add-l c =
-    let start = c .before .before .before .before .before .before .before .before .before .before in
-    let args = start .args in
-    let few = start .pre .0 in
-    let here = c .before .before .before .before .before .before .before .before .loop in
-    omega (arith, few .few, few .known, c .before .before .before .before .before .before .before .loop-test .taken)
+add-l c = omega (arith, known (c .before .before .before .before .before .before .before))
 
 loop-less : tie.Need-loop-less Inv-loop μ-loop
 loop-less c = omega arith

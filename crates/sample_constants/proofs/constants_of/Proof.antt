@@ -1,4 +1,4 @@
--- `model::constants_of` meets its contract. Assumes nothing.
+-- `sample_constants::constants_of` meets its contract. Assumes nothing.
 use mathlib.Core.Path.{refl}
 use Rattle.sample_constants.specs.Model.{constantsOf}
 use Rattle.sample_constants.proofs.constants_of.Statement.{statement}

@@ -1,4 +1,4 @@
--- `model::design_of` meets its contract. Assumes nothing.
+-- `sample_constants::design_of` meets its contract. Assumes nothing.
 use Rattle.sample_constants.specs.Model.{stringOf}
 use borrow.Author.Needs.{needs}
 use Rattle.sample_constants.proofs.design_of.Statement.{statement}

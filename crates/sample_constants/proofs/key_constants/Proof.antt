@@ -1,4 +1,4 @@
--- `model::key_constants` meets its contract. Assumes nothing.
+-- `sample_constants::key_constants` meets its contract. Assumes nothing.
 use Rattle.sample_constants.specs.Model.{keyConstants}
 use borrow.Author.Needs.{needs}
 use Rattle.sample_constants.proofs.key_constants.Statement.{statement}

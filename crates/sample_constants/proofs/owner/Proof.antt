@@ -1,9 +1,9 @@
--- `model::owner` meets its contract. The loop's invariant: the search from key k on gives what the whole search gives. Assumes nothing.
+-- `sample_constants::owner` meets its contract. The loop's invariant: the search from key k on gives what the whole search gives. Assumes nothing.
 use Prim.Native.Nat.{_-_}
 use native.Mathlib.Omega.{arith}
 use lib.ListN.{getD}
 use Rattle.instrument.specs.Valid as valid
-use Rattle.sample_constants.proofs.Rows.{Passing, passing-start, passing-found, passing-turn, passing-end}
+use Rattle.sample_constants.proofs.KeySearch.{Passing, passing-start, passing-found, passing-turn, passing-end}
 use Rattle.sample_constants.proofs.owner.Statement.{statement}
 use Rattle.sample_constants.proofs.owner.Tie as tie
 

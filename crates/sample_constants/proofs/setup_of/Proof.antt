@@ -1,4 +1,4 @@
--- `model::setup_of` meets its contract. Assumes nothing.
+-- `sample_constants::setup_of` meets its contract. Assumes nothing.
 use Rattle.sample_constants.specs.Model.{setupOf}
 use borrow.Author.Needs.{needs}
 use Rattle.sample_constants.proofs.setup_of.Statement.{statement}

@@ -1,4 +1,4 @@
--- `model::string_counts` meets its contract. The loop's invariant: the counts below k are stored. Assumes nothing.
+-- `sample_constants::string_counts` meets its contract. The loop's invariant: the counts below k are stored. Assumes nothing.
 use mathlib.Core.Path.{_≡_, refl, sym, ap, _∙_}
 use Prim.Native.Nat.{ℕ, _-_, _≤_, _<_}
 use native.Mathlib.Omega.{arith}
@@ -11,7 +11,8 @@ use Rattle.sample_constants.proofs.string_counts.Statement.{statement}
 use Rattle.sample_constants.proofs.string_counts.Tie as tie
 
 abbrev Inv-loop : tie.InvT-loop
-Inv-loop instrument counts₀ k₀ k-end counts k = (k ≤ instrument .«key_count») × (length counts ≡ 16) × ((j : ℕ) → j < k → getD counts j 0 ≡ valid.keyAt (instrument .keys) j .strings)
+Inv-loop instrument counts₀ k₀ k-end counts k =
+    (k ≤ instrument .«key_count») × (length counts ≡ 16) × ((j : ℕ) → j < k → getD counts j 0 ≡ valid.keyAt (instrument .keys) j .strings)
 
 abbrev μ-loop : tie.MeasureT-loop
 μ-loop instrument counts₀ k₀ k-end counts k = instrument .«key_count» - k

@@ -1,4 +1,4 @@
--- `score::apply` meets its contract. Assumes nothing.
+-- `score::apply` meets its contract: each kind of event, with a key that is there and with one that is not, is a case of `applied`. Assumes nothing.
 use borrow.Author.Tests.{lt-ltb, le-ltb}
 use Rattle.score.specs.Events.{applied}
 use borrow.Author.Needs.{needs}
@@ -46,7 +46,10 @@ same-length c = search needs
 
 returns : tie.Need-returns
 unfolding applied
-returns c = rw (c .before .before .before .before .before .before .before .before .before .event .given .1, ← c .before .before .before .before .before .before .before .key-index .ensures, lt-ltb _ _ (c .before .before .before .before .before .if1 .taken), ← c .before .before .before .clear-strings .ensures, ← c .strike-key .ensures)
+returns c =
+    let found = c .before .before .before .before .before in
+    let index = found .before .before .key-index in
+    rw (found .before .before .before .before .event .given .1, ← index .ensures, lt-ltb _ _ (found .if1 .taken), ← c .before .before .before .clear-strings .ensures, ← c .strike-key .ensures)
 
 returns-2 : tie.Need-returns-2
 unfolding applied

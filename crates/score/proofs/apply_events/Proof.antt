@@ -14,7 +14,9 @@ use Rattle.score.proofs.apply_events.Statement.{statement}
 use Rattle.score.proofs.apply_events.Tie as tie
 
 abbrev Inv-loop : tie.InvT-loop
-Inv-loop part₀ lengths coefficients n instrument t score p₀ i₀ i-end part p i = (i ≤ score .count) × (length part ≡ length part₀) × Acted instrument (tableStrings lengths coefficients n) (eventsOf score) t (record { piano = p₀; cells = part₀ }) (record { piano = p; cells = part }) i
+Inv-loop part₀ lengths coefficients n instrument t score p₀ i₀ i-end part p i =
+    (i ≤ score .count) × (length part ≡ length part₀)
+    × Acted instrument (tableStrings lengths coefficients n) (eventsOf score) t (record { piano = p₀; cells = part₀ }) (record { piano = p; cells = part }) i
 
 abbrev μ-loop : tie.MeasureT-loop
 μ-loop part₀ lengths coefficients n instrument t score p₀ i₀ i-end part p i = score .count - i
@@ -41,7 +43,8 @@ loop-less c = omega arith
 
 loop-again : tie.Need-loop-again Inv-loop μ-loop
 loop-again c =
-    let at = c .before .before .before .before .before .before .args in
+    let start = c .before .before .before .before .before .before in
+    let at = start .args in
     let here = c .before .before .before .before .loop in
     let below : here .i < at .t6 .count = c .before .before .before .loop-test .taken in
     let es = eventsOf (at .t6) in
@@ -50,8 +53,8 @@ loop-again c =
     let s : State = record { piano = here .p; cells = here .part } in
     let e = getD (at .t6 .events) (here .i) noEvent in
     let is = getD-take (at .t6 .count) (at .t6 .events) (here .i) noEvent below in
-    let long : length (at .t6 .events) ≡ 64 = sym (length-map (at .t6 .events) (TimedEventType.the-field .into)) ∙ c .before .before .before .before .before .before .good .1 .1 .1 .1 .1 .0 .1 .1 .0 .1 .0 .1 in
-    let there : here .i < length (eventsOf (at .t6)) = simp length-take (omega (arith, long, c .before .before .before .before .before .before .pre .1)) in
+    let long : length (at .t6 .events) ≡ 64 = sym (length-map (at .t6 .events) (TimedEventType.the-field .into)) ∙ start .good .1 .1 .1 .1 .1 .0 .1 .1 .0 .1 .0 .1 in
+    let there : here .i < length (eventsOf (at .t6)) = simp length-take (omega (arith, long, start .pre .1)) in
     ⊎-elim
     (λ w.
     let call = w .2 in (
@@ -69,8 +72,10 @@ returns : tie.Need-returns Inv-loop μ-loop
 returns c =
     let at = c .before .before .before .args in
     let here = c .before .loop in
-    acted-end (at .instrument) (tableStrings (at .lengths .now) (at .coefficients .now) (at .n)) (eventsOf (at .t6)) (at .t) (record { piano = at .piano; cells = at .part .now }) (record { piano = here .p; cells = here .part }) (here .i) (here .inv .2)
-    (simp length-take (omega (arith, c .loop-test .left)))
+    let ds = tableStrings (at .lengths .now) (at .coefficients .now) (at .n) in
+    let s₀ : State = record { piano = at .piano; cells = at .part .now } in
+    let s : State = record { piano = here .p; cells = here .part } in
+    acted-end (at .instrument) ds (eventsOf (at .t6)) (at .t) s₀ s (here .i) (here .inv .2) (simp length-take (omega (arith, c .loop-test .left)))
 
 pub apply-events-spec : {M : Type 1} → statement M
 apply-events-spec =

@@ -1,17 +1,17 @@
--- `score::clear_strings` meets its contract. The loop's invariant: what is left to do gives what the whole walk gives. Assumes nothing.
+-- `score::clear_strings` meets its contract. The loop's invariant: what is left to do gives what the whole walk gives (`WalkAt` of crate strings); nothing is carried. Assumes nothing.
 use mathlib.Core.Path.{_≡_, refl, _∙_}
 use Prim.Native.Nat.{_+_, _-_}
 use native.Mathlib.Omega.{arith}
 use borrow.Author.Needs.{needs}
 use lib.ListN.{length-take, length-drop}
 use Rattle.strings.specs.Walk.{WalkAt, at-start, at-fits, at-turn, at-end}
-use Rattle.score.specs.Events.{cleared}
+use Rattle.score.specs.Events.{clearedOne}
 use Rattle.score.specs.Laws.{cleared-length}
 use Rattle.score.proofs.clear_strings.Statement.{statement}
 use Rattle.score.proofs.clear_strings.Tie as tie
 
 abbrev Inv-loop : tie.InvT-loop
-Inv-loop part₀ lengths coefficients n k at₀ i₀ part at i = WalkAt (λ j d p. cleared k d p) (λ j d p (a : Unit {0}). a) lengths coefficients n part₀ tt part tt at i
+Inv-loop part₀ lengths coefficients n k at₀ i₀ part at i = WalkAt (clearedOne k) (λ j d p (a : Unit {0}). a) lengths coefficients n part₀ tt part tt at i
 
 abbrev μ-loop : tie.MeasureT-loop
 μ-loop part₀ lengths coefficients n k at₀ i₀ part at i = n - i
@@ -23,10 +23,14 @@ design-at-requires : tie.Need-design-at-requires Inv-loop μ-loop
 design-at-requires c κs = search needs
 
 size-requires : tie.Need-size-requires Inv-loop μ-loop
-size-requires c κs = omega (arith, at-fits (c .before .before .loop .inv) (c .before .loop-test .taken) (c .design-at .result) (c .design-at .ensures))
+size-requires c κs =
+    let design = c .design-at in
+    omega (arith, at-fits (c .before .before .loop .inv) (c .before .loop-test .taken) (design .result) (design .ensures))
 
 add-e : tie.Need-add-e Inv-loop μ-loop
-add-e c = omega (arith, at-fits (c .before .before .before .loop .inv) (c .before .before .loop-test .taken) (c .before .design-at .result) (c .before .design-at .ensures))
+add-e c =
+    let design = c .before .design-at in
+    omega (arith, at-fits (c .before .before .before .loop .inv) (c .before .before .loop-test .taken) (design .result) (design .ensures))
 
 mul-clear-string : tie.Need-mul-clear-string Inv-loop μ-loop
 mul-clear-string c = omega arith
@@ -38,14 +42,18 @@ part-clear-string-start : tie.Need-part-clear-string-start Inv-loop μ-loop
 part-clear-string-start c = omega arith
 
 part-clear-string-end : tie.Need-part-clear-string-end Inv-loop μ-loop
-part-clear-string-end c = omega (arith, at-fits (c .before .before .before .loop .inv) (c .before .before .loop-test .taken) (c .before .design-at .result) (c .before .design-at .ensures))
+part-clear-string-end c =
+    let design = c .before .design-at in
+    omega (arith, at-fits (c .before .before .before .loop .inv) (c .before .before .loop-test .taken) (design .result) (design .ensures))
 
 clear-string-requires : tie.Need-clear-string-requires Inv-loop μ-loop
 clear-string-requires c κs =
     let here = c .before .before .before .before .loop in
     let size = c .before .size in
+    let design = c .before .before .design-at in
+    let fits = at-fits (here .inv) (c .before .before .before .loop-test .taken) (design .result) (design .ensures) in
     let n : here .at + size .result - here .at ≡ size .result = omega arith in
-    simp (length-take, length-drop) (omega (arith, n, size .ensures, at-fits (c .before .before .before .before .loop .inv) (c .before .before .before .loop-test .taken) (c .before .before .design-at .result) (c .before .before .design-at .ensures)))
+    simp (length-take, length-drop) (omega (arith, n, size .ensures, fits))
 
 add-i : tie.Need-add-i Inv-loop μ-loop
 add-i c = omega arith
@@ -59,8 +67,10 @@ loop-again c =
     let at = c .before .before .before .before .before .before .before .before .before .args in
     let size = c .before .before .before .before .size in
     let design = c .before .before .before .before .before .design-at in
-    at-turn (here .inv) (c .before .before .before .before .before .before .loop-test .taken) (design .result) (design .ensures) (size .result) (c .before .before .clear-string .last .0) tt (size .ensures)
-    (λ p e. cleared-length (at .k) (design .result) p ∙ e) (c .before .before .clear-string .ensures) refl
+    let taken = c .before .before .before .before .before .before .loop-test .taken in
+    let call = c .before .before .clear-string in
+    at-turn (here .inv) taken (design .result) (design .ensures) (size .result) (call .last .0) tt (size .ensures)
+    (λ p e. cleared-length (at .k) (design .result) p ∙ e) (call .ensures) refl
 
 same-length : tie.Need-same-length Inv-loop μ-loop
 same-length c = c .before .loop .inv .walked .same

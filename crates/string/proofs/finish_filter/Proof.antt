@@ -2,35 +2,17 @@
 use mathlib.Core.Path.{_≡_}
 use Prim.Native.Nat.{_-_}
 use native.Mathlib.Omega.{arith}
-use Rattle.string.specs.String.{atFilter, filterSize, atYS}
+use Rattle.string.specs.String.{filterSize}
 use Rattle.string.specs.Steps.{finishedOut, finished}
 use borrow.Author.Needs.{needs}
 use Rattle.string.proofs.finish_filter.Statement.{statement}
 use Rattle.string.proofs.finish_filter.Tie as tie
 
-add-f : tie.Need-add-f
-add-f c = search needs
+at-filter-requires : tie.Need-at-filter-requires
+at-filter-requires c κs = search needs
 
-add-f-2 : tie.Need-add-f-2
-add-f-2 c = search needs
-
-add-f-3 : tie.Need-add-f-3
-add-f-3 c = search needs
-
-add-f-4 : tie.Need-add-f-4
-add-f-4 c = search needs
-
-add-f-5 : tie.Need-add-f-5
-add-f-5 c = search needs
-
-mul-y : tie.Need-mul-y
-mul-y c = search needs
-
-add-y : tie.Need-add-y
-add-y c = search needs
-
-add-y-2 : tie.Need-add-y-2
-add-y-2 c = search needs
+at-y-s-requires : tie.Need-at-y-s-requires
+at-y-s-requires c κs = search needs
 
 mul-finish : tie.Need-mul-finish
 mul-finish c = search needs
@@ -53,23 +35,20 @@ same-length c = search needs
 returns : tie.Need-returns
 unfolding finishedOut finished
 returns c =
-    let at = c .before .before .before .before .before .before .before .before .before .before .before .before .args in
-    let n : atYS (at .d) - atFilter (at .d) ≡ filterSize (at .d) = omega arith in
+    let offsets = c .before .before .before .before .before in
+    let at = offsets .before .before .before .args in
+    let f = offsets .before .at-filter in
+    let y = offsets .at-y-s in
+    let n : y .result - f .result ≡ filterSize (at .d) = omega (arith, y .ensures, f .ensures) in
     let call = c .before .before .finish .ensures in
-    (rw n at (call .0), rw (call .1, n))
+    (rw (n, f .ensures) at (call .0), rw (call .1, n, f .ensures))
 
 pub finish-filter-spec : {M : Type 1} → statement M
 finish-filter-spec =
     tie.close
     (tie.spec
-    add-f
-    add-f-2
-    add-f-3
-    add-f-4
-    add-f-5
-    mul-y
-    add-y
-    add-y-2
+    at-filter-requires
+    at-y-s-requires
     mul-finish
     sub-finish
     part-finish-start

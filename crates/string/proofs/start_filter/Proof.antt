@@ -1,33 +1,23 @@
--- `string::start_filter` meets its contract: the read and Thiran's stage. Assumes nothing.
+-- `string::start_filter` meets its contract: Thiran's stage on the first two of the filter's cells, with what c_r gives. Assumes nothing.
 use mathlib.Core.Path.{_≡_}
-use Prim.Native.Nat.{_+_, _-_}
+use Prim.Native.Nat.{_-_}
 use native.Mathlib.Omega.{arith}
-use Rattle.string.specs.String.{atFilter}
 use Rattle.string.specs.Steps.{uIn, started}
 use borrow.Author.Needs.{needs}
 use Rattle.string.proofs.start_filter.Statement.{statement}
 use Rattle.string.proofs.start_filter.Tie as tie
 
-add-c-r : tie.Need-add-c-r
-add-c-r c = search needs
-
-add-c-r-2 : tie.Need-add-c-r-2
-add-c-r-2 c = search needs
-
-add-c-r-3 : tie.Need-add-c-r-3
-add-c-r-3 c = search needs
+at-c-r-requires : tie.Need-at-c-r-requires
+at-c-r-requires c κs = search needs
 
 read-line-requires : tie.Need-read-line-requires
 read-line-requires c κs = search needs
 
-add-f : tie.Need-add-f
-add-f c = search needs
+at-filter-requires : tie.Need-at-filter-requires
+at-filter-requires c κs = search needs
 
-add-f-2 : tie.Need-add-f-2
-add-f-2 c = search needs
-
-add-e : tie.Need-add-e
-add-e c = search needs
+at-row-requires : tie.Need-at-row-requires
+at-row-requires c κs = search needs
 
 mul-allpass : tie.Need-mul-allpass
 mul-allpass c = search needs
@@ -50,23 +40,22 @@ same-length c = search needs
 returns : tie.Need-returns
 unfolding uIn started
 returns c =
-    let arrived = c .before .before .before .before .before .before .before .read-line .ensures in
-    let at = c .before .before .before .before .before .before .before .before .before .before .before .before .before .args in
-    let n : atFilter (at .d) + 2 - atFilter (at .d) ≡ 2 = omega arith in
+    let read = c .before .before .before .before .before .before .before in
+    let c-r = read .before .before .at-c-r in
+    let f = c .before .before .before .before .before .before .at-filter in
+    let e = c .before .before .before .before .before .at-row in
+    let n : e .result - f .result ≡ 2 = omega (arith, e .ensures, f .ensures) in
     let call = c .before .before .allpass .ensures in
-    (rw (arrived, n) at (call .0), rw (call .1, arrived, n))
+    (rw (read .read-line .ensures, n, f .ensures, c-r .ensures) at (call .0), rw (call .1, read .read-line .ensures, n, f .ensures, c-r .ensures))
 
 pub start-filter-spec : {M : Type 1} → statement M
 start-filter-spec =
     tie.close
     (tie.spec
-    add-c-r
-    add-c-r-2
-    add-c-r-3
+    at-c-r-requires
     read-line-requires
-    add-f
-    add-f-2
-    add-e
+    at-filter-requires
+    at-row-requires
     mul-allpass
     sub-allpass
     part-allpass-start

@@ -1,9 +1,9 @@
--- `keys::key_at` meets its contract. Assumes nothing.
+-- `keys::constants_at` meets its contract: it reads the cells that the definition names. Assumes nothing.
 use mathlib.Core.Path.{refl}
 use Rattle.keys.specs.Keys.{constantsAt}
 use borrow.Author.Needs.{needs}
-use Rattle.keys.proofs.key_at.Statement.{statement}
-use Rattle.keys.proofs.key_at.Tie as tie
+use Rattle.keys.proofs.constants_at.Statement.{statement}
+use Rattle.keys.proofs.constants_at.Tie as tie
 
 mul-j : tie.Need-mul-j
 mul-j c = search needs
@@ -45,8 +45,8 @@ returns : tie.Need-returns
 unfolding constantsAt
 returns c = refl
 
-pub key-at-spec : {M : Type 1} → statement M
-key-at-spec =
+pub constants-at-spec : {M : Type 1} → statement M
+constants-at-spec =
     tie.close
     (tie.spec
     mul-j
