@@ -1,29 +1,29 @@
--- What restore leaves to show: the held state is in the first part. Assumes nothing.
-use mathlib.Core.Path.{_≡_, refl, sym, _∙_, ap}
-use mathlib.Core.Bool.{Bool, true, false}
+-- What restore leaves to show: in each of its three ways out the held state is in the first part. Assumes nothing.
+use mathlib.Core.Path.{_≡_, sym, _∙_, ap}
+use mathlib.Core.Bool.{true, false}
+use mathlib.Core.Logic.{inl}
 use mathlib.Core.List.{List, _++_}
 use Prim.Native.Nat.{ℕ, _+_, _*_, _<_, _≤_}
 use native.Mathlib.Omega.{arith}
-use lib.Dec.{eqb, ltb}
 use borrow.Author.Tests.{eq-eqb, ne-eqb, lt-ltb, le-ltb}
 use lib.Ieee.{Float}
 use lib.ListN.{length, take, drop, getD, take-append-drop, replicate}
 use lib.Seq.{length-take-le}
 use Rattle.float.specs.Float.{zero as zeroCell}
+use Rattle.cells.specs.Copy.{Apart}
 use Rattle.cells.specs.Splice.{part, splice}
 use Rattle.instrument.specs.declared.Instrument.{Instrument}
 use Rattle.instrument.specs.Valid.{valid}
 use Rattle.instrument.specs.Work.{partCells}
 use Rattle.score.specs.declared.Piano.{Piano}
-use Rattle.score.specs.Events.{State}
-use Rattle.render.specs.Render.{silentPiano, silence}
+use Rattle.render.specs.Render.{silentPiano}
 use Rattle.positions.specs.Positions.{isIn}
 use Rattle.session_cues.specs.declared.Cue.{Cue}
 use Rattle.session_cues.specs.Cues.{slotAt}
 use Rattle.session_cues.specs.Laws.{slot-in}
 use Rattle.session_record.specs.declared.Session.{Session}
-use Rattle.session.specs.Calls.{keptBy, emptyCue, stateNow, stateCue, heldAt, Restores}
-use Rattle.session.specs.Laws.{get-any, held-now, silent-cells, silent-piano, held-cue, held-none}
+use Rattle.session.specs.Calls.{keptBy, emptyCue, Restores}
+use Rattle.session.specs.Laws.{get-any, slot-fits, slot-past, held-now, silent-cells, silent-piano, held-cue, held-none}
 
 module _ (i : Instrument) (s : Session) (work : List Float) (x : ℕ) where
   pub restored-now : x ≡ s .t → Restores i s work x (s .piano) work
@@ -53,3 +53,8 @@ module _ (i : Instrument) (s : Session) (work : List Float) (x : ℕ) where
           piano = er ∙ silent-piano i ∙ ap (λ h. h .piano) st;
           memory = rw ew (ap (λ c. c ++ drop (partCells i) work) (silent-cells i ok (take w work) cells size ec ∙ ap (λ h. h .cells) st));
         }
+
+-- a slot's part lies in the memory and apart from the first
+pub slot-apart : (slot w n : ℕ) → slot < 4 → 5 * w ≤ n → Apart n 0 ((slot + 1) * w) w
+slot-apart slot w n h room =
+    let fits = slot-fits slot w n h room in record { goes = omega arith; comes = fits; apart = inl (omega (arith, slot-past slot w)) }

@@ -89,7 +89,8 @@ pub fn play(
     out: &mut [f64],
     trace: &mut [f64],
 ) -> Outcome
-    ensures { λ r. ⌜ PlayMeets instrument session (now (work .entry)) (length (now (scratch .entry))) (now (out .entry)) (now (trace .entry)) r (now (work .exit)) (now (out .exit)) (now (trace .exit)) ⌝ }
+    ensures { λ r. ⌜ PlayMeets instrument session (now (work .entry)) (length (now (scratch .entry))) (now (out .entry)) (now (trace .entry))
+        r (now (work .exit)) (now (out .exit)) (now (trace .exit)) ⌝ }
 {
     let refusal = session_record::play_refusal(
         instrument,

@@ -1,4 +1,4 @@
-use mathlib.Core.Path.{_≡_, refl, sym, _∙_, ap}
+-- The four calls' promises are the parts of the edit's.
 use Rattle.session.proofs.Calls.{edited}
 use borrow.Author.Needs.{needs}
 use Rattle.session.proofs.edit.Statement.{statement}
@@ -21,8 +21,11 @@ same-length c = search needs
 
 returns : tie.Need-returns
 returns c =
-    let from = c .before .before .before .before .before .before .before .before .before .args in
-    edited (from .instrument) (from .session) (from .work .now) (from .q) _ _ _ _ _ _ _ (c .before .before .before .before .before .before .before .settle .ensures) (c .before .count-above .ensures) (c .drop-above .ensures) (c .before .before .before .before .before .restore .ensures)
+    let restored = c .before .before .before .before .before in
+    let moved = restored .before .before in
+    let from = moved .before .before .args in
+    edited (from .instrument) (from .session) (from .work .now) (from .q) _ _ _ _ _ _ _ (moved .settle .ensures) (c .before .count-above .ensures) (c .drop-above .ensures)
+    (restored .restore .ensures)
 
 pub edit-spec : {M : Type 1} → statement M
 edit-spec =

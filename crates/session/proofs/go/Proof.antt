@@ -1,7 +1,9 @@
-use mathlib.Core.Path.{_≡_, refl, sym, _∙_, ap}
+-- A refused go gives back what it got. Where the tests passed, which `p` holds in each need, the held state is restored, the renderer may have it, and what it gives is the promise.
+use mathlib.Core.Path.{refl, sym}
 use native.Mathlib.Omega.{arith}
 use lib.Seq.{length-take-le}
-use Rattle.session.proofs.Calls.{go-refused, go-fine, go-ready, go-accepted}
+use Rattle.counting.specs.Meets.{meets-refused, meets-accepted}
+use Rattle.session.proofs.Calls.{go-tested, go-ready, goes}
 use borrow.Author.Needs.{needs}
 use Rattle.session.proofs.go.Statement.{statement}
 use Rattle.session.proofs.go.Tie as tie
@@ -13,33 +15,42 @@ refused-requires : tie.Need-refused-requires
 refused-requires c κs = search needs
 
 returns : tie.Need-returns
-returns c =
-    let from = c .before .before .before .before .before .args in
-    go-refused (from .instrument) (from .session) (from .work .now) _ (from .p) _ (c .before .before .go-refusal .ensures) (c .before .if1 .taken) _ (c .refused .ensures)
+returns c = meets-refused _ (c .before .before .go-refusal .ensures) (c .before .if1 .taken) (c .refused .ensures, refl)
 
 part-size-requires : tie.Need-part-size-requires
 part-size-requires c κs =
     let from = c .before .before .before .before .args in
-    go-fine (from .instrument) (from .session) (from .work .now) _ (from .p) _ (c .before .go-refusal .ensures) (c .if1 .left) .sound
+    go-tested (from .instrument) (from .session) (from .work .now) (from .scratch .now) (from .p) _ (c .before .go-refusal .ensures) (c .if1 .left) .records .sound
 
 start-of-requires : tie.Need-start-of-requires
 start-of-requires c κs = search needs
 
 restore-requires : tie.Need-restore-requires
 restore-requires c κs =
-    let from = c .before .before .before .before .before .before .before .args in
-    let fine = go-fine (from .instrument) (from .session) (from .work .now) _ (from .p) _ (c .before .before .before .before .go-refusal .ensures) (c .before .before .before .if1 .left) in
-    (fine .sound, fine .room)
+    let at = c .before .before .before in
+    let from = at .before .before .before .before .args in
+    let p = go-tested (from .instrument) (from .session) (from .work .now) (from .scratch .now) (from .p) _ (at .before .go-refusal .ensures) (at .if1 .left) in
+    (p .records .sound, p .records .room)
 
 slice-relend-prefix-render : tie.Need-slice-relend-prefix-render
 slice-relend-prefix-render c =
-    let from = c .before .before .before .before .before .before .before .before .before .before .before .before .args in
-    omega (arith, go-fine (from .instrument) (from .session) (from .work .now) _ (from .p) _ (c .before .before .before .before .before .before .before .before .before .go-refusal .ensures) (c .before .before .before .before .before .before .before .before .if1 .left) .room, c .before .before .before .before .before .before .before .part-size .ensures, c .before .before .before .before .restore .kept .1 .1 .1 .0)
+    let restored = c .before .before .before .before in
+    let started = restored .before .before in
+    let sized = started .before in
+    let at = sized .before in
+    let from = at .before .before .before .before .args in
+    let p = go-tested (from .instrument) (from .session) (from .work .now) (from .scratch .now) (from .p) _ (at .before .go-refusal .ensures) (at .if1 .left) in
+    omega (arith, p .records .room, sized .part-size .ensures, restored .restore .kept .1 .1 .1 .0)
 
 slice-aggregate-render : tie.Need-slice-aggregate-render
 slice-aggregate-render c =
-    let from = c .before .before .before .before .before .before .before .before .before .before .before .before .before .args in
-    sym (length-take-le _ _ (omega (arith, go-fine (from .instrument) (from .session) (from .work .now) _ (from .p) _ (c .before .before .before .before .before .before .before .before .before .before .go-refusal .ensures) (c .before .before .before .before .before .before .before .before .before .if1 .left) .room, c .before .before .before .before .before .before .before .before .part-size .ensures, c .before .before .before .before .before .restore .kept .1 .1 .1 .0)))
+    let restored = c .before .before .before .before .before in
+    let started = restored .before .before in
+    let sized = started .before in
+    let at = sized .before in
+    let from = at .before .before .before .before .args in
+    let p = go-tested (from .instrument) (from .session) (from .work .now) (from .scratch .now) (from .p) _ (at .before .go-refusal .ensures) (at .if1 .left) in
+    sym (length-take-le _ _ (omega (arith, p .records .room, sized .part-size .ensures, restored .restore .kept .1 .1 .1 .0)))
 
 slice-aggregate-render-2 : tie.Need-slice-aggregate-render-2
 slice-aggregate-render-2 c = search needs
@@ -52,8 +63,14 @@ sub-render c = omega (arith, c .before .before .before .before .before .before .
 
 render-requires : tie.Need-render-requires
 render-requires c κs =
-    let from = c .before .before .before .before .before .before .before .before .before .before .before .before .before .before .before .before .args in
-    let q = go-ready (from .instrument) (from .session) (from .work .now) _ (from .p) _ (c .before .before .before .before .before .before .before .before .before .before .before .before .before .go-refusal .ensures) (c .before .before .before .before .before .before .before .before .before .before .before .before .if1 .left) _ _ (c .before .before .before .before .before .before .before .before .before .before .before .part-size .ensures) (c .before .before .before .before .before .before .before .before .before .before .start-of .ensures .0) (c .before .before .before .before .before .before .before .before .before .before .start-of .ensures .1) (c .before .before .before .before .before .before .before .before .before .before .start-of .ensures .2) _ _ (c .before .before .before .before .before .before .before .before .restore .ensures) (c .before .before .before .before .before .before .before .before .restore .kept .1 .1 .1 .0) (from .scratch .now) refl in
+    let restored = c .before .before .before .before .before .before .before .before in
+    let started = restored .before .before in
+    let sized = started .before in
+    let at = sized .before in
+    let from = at .before .before .before .before .args in
+    let p = go-tested (from .instrument) (from .session) (from .work .now) (from .scratch .now) (from .p) _ (at .before .go-refusal .ensures) (at .if1 .left) in
+    let q = go-ready (from .instrument) (from .session) (from .work .now) (from .scratch .now) (from .p) p (started .start-of .ensures .2) _ (started .start-of .ensures .0)
+    (started .start-of .ensures .1) _ _ (restored .restore .ensures) (restored .restore .kept .1 .1 .1 .0) _ (sized .part-size .ensures) in
     (q .0, (q .1, (q .2, q .3)))
 
 same-length : tie.Need-same-length
@@ -64,8 +81,17 @@ same-length-2 c = search needs
 
 returns-2 : tie.Need-returns-2
 returns-2 c =
-    let from = c .before .before .before .before .before .before .before .before .before .before .before .before .before .before .before .before .before .before .before .before .before .before .before .before .args in
-    go-accepted (from .instrument) (from .session) (from .work .now) _ (from .p) _ (c .before .before .before .before .before .before .before .before .before .before .before .before .before .before .before .before .before .before .before .before .before .go-refusal .ensures) (c .before .before .before .before .before .before .before .before .before .before .before .before .before .before .before .before .before .before .before .before .if1 .left) _ _ (c .before .before .before .before .before .before .before .before .before .before .before .before .before .before .before .before .before .before .before .part-size .ensures) (c .before .before .before .before .before .before .before .before .before .before .before .before .before .before .before .before .before .before .start-of .ensures .0) (c .before .before .before .before .before .before .before .before .before .before .before .before .before .before .before .before .before .before .start-of .ensures .1) (c .before .before .before .before .before .before .before .before .before .before .before .before .before .before .before .before .before .before .start-of .ensures .2) _ _ (c .before .before .before .before .before .before .before .before .before .before .before .before .before .before .before .before .restore .ensures) (c .before .before .before .before .before .before .before .before .before .before .before .before .before .before .before .before .restore .kept .1 .1 .1 .0) _ _ _ _ _ _ (c .before .before .before .before .before .before .before .render .ensures)
+    let rendered = c .before .before .before .before .before .before .before in
+    let restored = rendered .before .before .before .before .before .before .before .before .before in
+    let started = restored .before .before in
+    let sized = started .before in
+    let at = sized .before in
+    let from = at .before .before .before .before .args in
+    let p = go-tested (from .instrument) (from .session) (from .work .now) (from .scratch .now) (from .p) _ (at .before .go-refusal .ensures) (at .if1 .left) in
+    meets-accepted _ (at .before .go-refusal .ensures) (at .if1 .left)
+    (goes (from .instrument) (from .session) (from .work .now) (from .scratch .now) (from .p) p (started .start-of .ensures .2) _ (started .start-of .ensures .0)
+    (started .start-of .ensures .1) _ _ (restored .restore .ensures) (restored .restore .kept .1 .1 .1 .0) _ (sized .part-size .ensures)
+    _ _ _ (rendered .render .ensures .state) (rendered .render .ensures .counted))
 
 pub go-spec : {M : Type 1} → statement M
 go-spec =

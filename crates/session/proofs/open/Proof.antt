@@ -1,7 +1,12 @@
-use mathlib.Core.Path.{_≡_, refl, sym, _∙_, ap}
+-- A refused open gives a fresh session and changes no cell. Where the tests passed, which `p` holds in each need, the first part is silenced.
+use mathlib.Core.Path.{refl, sym, _∙_, ap}
 use native.Mathlib.Omega.{arith}
 use lib.Seq.{length-take-le}
-use Rattle.session.proofs.Calls.{open-refused, open-fine, opened}
+use Rattle.counting.specs.Meets.{meets-refused, meets-accepted}
+use Rattle.session_record.specs.Laws.{open-passed}
+use Rattle.session.specs.declared.Answer.the-variants.{Opened}
+use Rattle.session.specs.Calls.{freshSession, refusedWith}
+use Rattle.session.proofs.Calls.{silenced}
 use borrow.Author.Needs.{needs}
 use Rattle.session.proofs.open.Statement.{statement}
 use Rattle.session.proofs.open.Tie as tie
@@ -20,17 +25,28 @@ refused-requires c κs = search needs
 
 returns : tie.Need-returns
 returns c =
-    let from = c .before .before .before .before .before .before .args in
-    open-refused (from .instrument) (from .work .now) _ (c .before .before .before .before .open-refusal .ensures) (c .before .before .before .if1 .taken) _ _ _ (c .before .before .silent-piano .ensures) (c .before .fresh .ensures) (c .refused .ensures)
+    let at = c .before .before .before in
+    let made = c .before .fresh .ensures ∙ ap freshSession (c .before .before .silent-piano .ensures) in
+    meets-refused _ (at .before .open-refusal .ensures) (at .if1 .taken)
+    (c .refused .ensures ∙ ap (λ s. refusedWith s (at .before .open-refusal .result)) made, refl)
 
 part-size-requires : tie.Need-part-size-requires
-part-size-requires c κs = open-fine (c .before .before .before .args .instrument) (c .before .before .before .args .work .now) _ (c .before .open-refusal .ensures) (c .if1 .left) .0
+part-size-requires c κs =
+    open-passed (c .before .before .before .args .instrument) _ (sym (c .before .open-refusal .ensures) ∙ c .if1 .left) .0
 
 slice-relend-prefix-silence-part : tie.Need-slice-relend-prefix-silence-part
-slice-relend-prefix-silence-part c = omega (arith, open-fine (c .before .before .before .before .args .instrument) (c .before .before .before .before .args .work .now) _ (c .before .before .open-refusal .ensures) (c .before .if1 .left) .1, c .part-size .ensures)
+slice-relend-prefix-silence-part c =
+    let at = c .before in
+    let from = at .before .before .before .args in
+    let p = open-passed (from .instrument) _ (sym (at .before .open-refusal .ensures) ∙ at .if1 .left) in
+    omega (arith, p .1, c .part-size .ensures)
 
 slice-aggregate-silence-part : tie.Need-slice-aggregate-silence-part
-slice-aggregate-silence-part c = sym (length-take-le _ _ (omega (arith, open-fine (c .before .before .before .before .before .args .instrument) (c .before .before .before .before .before .args .work .now) _ (c .before .before .before .open-refusal .ensures) (c .before .before .if1 .left) .1, c .before .part-size .ensures)))
+slice-aggregate-silence-part c =
+    let at = c .before .before in
+    let from = at .before .before .before .args in
+    let p = open-passed (from .instrument) _ (sym (at .before .open-refusal .ensures) ∙ at .if1 .left) in
+    sym (length-take-le _ _ (omega (arith, p .1, c .before .part-size .ensures)))
 
 silence-part-requires : tie.Need-silence-part-requires
 silence-part-requires c κs = search needs
@@ -46,8 +62,15 @@ same-length c = search needs
 
 returns-2 : tie.Need-returns-2
 returns-2 c =
-    let from = c .before .before .before .before .before .before .before .before .before .before .args in
-    opened (from .instrument) (from .work .now) _ (c .before .before .before .before .before .before .before .before .open-refusal .ensures) (c .before .before .before .before .before .before .before .if1 .left) _ (c .before .before .before .before .before .before .part-size .ensures) _ _ _ (c .before .before .before .before .silence-part .ensures) (c .before .silent-piano2 .ensures) (c .fresh2 .ensures)
+    let at = c .before .before .before .before .before .before .before in
+    let from = at .before .before .before .args in
+    let p = open-passed (from .instrument) _ (sym (at .before .open-refusal .ensures) ∙ at .if1 .left) in
+    let silent = c .before .before .before .before in
+    let made = c .fresh2 .ensures ∙ ap freshSession (c .before .silent-piano2 .ensures) in
+    meets-accepted _ (at .before .open-refusal .ensures) (at .if1 .left) (
+      ap (λ s. record { answer = Opened; session = s }) made,
+      silenced (from .instrument) (from .work .now) (p .0) (p .1) _ (silent .before .before .part-size .ensures) _ (silent .silence-part .ensures),
+    )
 
 pub open-spec : {M : Type 1} → statement M
 open-spec =

@@ -1,7 +1,9 @@
-use mathlib.Core.Path.{_≡_, refl, sym, _∙_, ap}
+-- A refused play gives back what it got. Where the tests passed, which `p` holds in each need, the renderer may have the first part, and what it gives is the promise.
+use mathlib.Core.Path.{refl, sym}
 use native.Mathlib.Omega.{arith}
 use lib.Seq.{length-take-le}
-use Rattle.session.proofs.Calls.{play-refused, play-fine, play-stops, play-ready, play-accepted}
+use Rattle.counting.specs.Meets.{meets-refused, meets-accepted}
+use Rattle.session.proofs.Calls.{play-tested, play-ready, plays}
 use borrow.Author.Needs.{needs}
 use Rattle.session.proofs.play.Statement.{statement}
 use Rattle.session.proofs.play.Tie as tie
@@ -13,34 +15,43 @@ refused-requires : tie.Need-refused-requires
 refused-requires c κs = search needs
 
 returns : tie.Need-returns
-returns c =
-    let from = c .before .before .before .before .before .before .before .args in
-    play-refused (from .instrument) (from .session) (from .work .now) _ (from .out .now) (from .trace .now) _ (c .before .before .play-refusal .ensures) (c .before .if1 .taken) _ (c .refused .ensures)
+returns c = meets-refused _ (c .before .before .play-refusal .ensures) (c .before .if1 .taken) (c .refused .ensures, refl, refl, refl)
 
 part-size-requires : tie.Need-part-size-requires
 part-size-requires c κs =
     let from = c .before .before .before .before .before .before .args in
-    play-fine (from .instrument) (from .session) (from .work .now) _ (from .out .now) (from .trace .now) _ (c .before .play-refusal .ensures) (c .if1 .left) .sound
+    play-tested (from .instrument) (from .session) (from .work .now) (from .scratch .now) (from .out .now) (from .trace .now) _ (c .before .play-refusal .ensures) (c .if1 .left) .records .sound
 
 add-next : tie.Need-add-next
 add-next c =
-    let from = c .before .before .before .before .before .before .before .args in
-    record { fits = omega (arith, play-stops (from .instrument) (from .session) (from .work .now) _ (from .out .now) (from .trace .now) _ (c .before .before .play-refusal .ensures) (c .before .if1 .left)) }
+    let at = c .before in
+    let from = at .before .before .before .before .before .before .args in
+    let p = play-tested (from .instrument) (from .session) (from .work .now) (from .scratch .now) (from .out .now) (from .trace .now) _ (at .before .play-refusal .ensures) (at .if1 .left) in
+    record { fits = omega (arith, p .stops) }
 
 slice-relend-prefix-render : tie.Need-slice-relend-prefix-render
 slice-relend-prefix-render c =
-    let from = c .before .before .before .before .before .before .before .before .before .before .args in
-    omega (arith, play-fine (from .instrument) (from .session) (from .work .now) _ (from .out .now) (from .trace .now) _ (c .before .before .before .before .before .play-refusal .ensures) (c .before .before .before .before .if1 .left) .room, c .before .before .before .part-size .ensures)
+    let sized = c .before .before .before in
+    let at = sized .before in
+    let from = at .before .before .before .before .before .before .args in
+    let p = play-tested (from .instrument) (from .session) (from .work .now) (from .scratch .now) (from .out .now) (from .trace .now) _ (at .before .play-refusal .ensures) (at .if1 .left) in
+    omega (arith, p .records .room, sized .part-size .ensures)
 
 slice-aggregate-render : tie.Need-slice-aggregate-render
 slice-aggregate-render c =
-    let from = c .before .before .before .before .before .before .before .before .before .before .before .args in
-    sym (length-take-le _ _ (omega (arith, play-fine (from .instrument) (from .session) (from .work .now) _ (from .out .now) (from .trace .now) _ (c .before .before .before .before .before .before .play-refusal .ensures) (c .before .before .before .before .before .if1 .left) .room, c .before .before .before .before .part-size .ensures)))
+    let sized = c .before .before .before .before in
+    let at = sized .before in
+    let from = at .before .before .before .before .before .before .args in
+    let p = play-tested (from .instrument) (from .session) (from .work .now) (from .scratch .now) (from .out .now) (from .trace .now) _ (at .before .play-refusal .ensures) (at .if1 .left) in
+    sym (length-take-le _ _ (omega (arith, p .records .room, sized .part-size .ensures)))
 
 render-requires : tie.Need-render-requires
 render-requires c κs =
-    let from = c .before .before .before .before .before .before .before .before .before .before .before .before .before .before .args in
-    let q = play-ready (from .instrument) (from .session) (from .work .now) _ (from .out .now) (from .trace .now) _ (c .before .before .before .before .before .before .before .before .before .play-refusal .ensures) (c .before .before .before .before .before .before .before .before .if1 .left) _ (c .before .before .before .before .before .before .before .part-size .ensures) (from .scratch .now) refl in
+    let sized = c .before .before .before .before .before .before .before in
+    let at = sized .before in
+    let from = at .before .before .before .before .before .before .args in
+    let p = play-tested (from .instrument) (from .session) (from .work .now) (from .scratch .now) (from .out .now) (from .trace .now) _ (at .before .play-refusal .ensures) (at .if1 .left) in
+    let q = play-ready (from .instrument) (from .session) (from .work .now) (from .scratch .now) (from .out .now) (from .trace .now) p _ (sized .part-size .ensures) in
     (q .0, (q .1, (q .2, q .3)))
 
 same-length : tie.Need-same-length
@@ -57,8 +68,13 @@ same-length-4 c = search needs
 
 returns-2 : tie.Need-returns-2
 returns-2 c =
-    let from = c .before .before .before .before .before .before .before .before .before .before .before .before .before .before .before .before .before .before .before .before .before .before .before .before .args in
-    play-accepted (from .instrument) (from .session) (from .work .now) _ (from .out .now) (from .trace .now) _ (c .before .before .before .before .before .before .before .before .before .before .before .before .before .before .before .before .before .before .before .play-refusal .ensures) (c .before .before .before .before .before .before .before .before .before .before .before .before .before .before .before .before .before .before .if1 .left) _ (c .before .before .before .before .before .before .before .before .before .before .before .before .before .before .before .before .before .part-size .ensures) _ _ _ _ (c .before .before .before .before .before .before .before .before .before .render .ensures)
+    let rendered = c .before .before .before .before .before .before .before .before .before in
+    let sized = rendered .before .before .before .before .before .before .before .before in
+    let at = sized .before in
+    let from = at .before .before .before .before .before .before .args in
+    let p = play-tested (from .instrument) (from .session) (from .work .now) (from .scratch .now) (from .out .now) (from .trace .now) _ (at .before .play-refusal .ensures) (at .if1 .left) in
+    meets-accepted _ (at .before .play-refusal .ensures) (at .if1 .left)
+    (plays (from .instrument) (from .session) (from .work .now) (from .scratch .now) (from .out .now) (from .trace .now) p _ (sized .part-size .ensures) _ _ _ _ (rendered .render .ensures))
 
 pub play-spec : {M : Type 1} → statement M
 play-spec =

@@ -1,11 +1,11 @@
-use mathlib.Core.Path.{_≡_, refl, sym, _∙_, ap}
+-- The three ways out: the piano now stands at x, a slot keeps x, or none does. `pre` says that the instrument is sound and the five parts are there.
+use mathlib.Core.Path.{sym}
 use native.Mathlib.Omega.{arith}
+use Prim.Native.Nat.{_*_, _≤_}
 use lib.ListN.{length}
 use lib.Seq.{length-take-le}
-use Prim.Native.Nat.{_+_}
-use mathlib.Core.Logic.{inl}
-use Rattle.session.specs.Laws.{slot-fits, slot-past}
-use Rattle.session.proofs.Held.{restored-now, restored-cue, restored-silence}
+use Rattle.session.specs.Laws.{slot-fits}
+use Rattle.session.proofs.Held.{slot-apart, restored-now, restored-cue, restored-silence}
 use borrow.Author.Needs.{needs}
 use Rattle.session.proofs.restore.Statement.{statement}
 use Rattle.session.proofs.restore.Tie as tie
@@ -26,16 +26,19 @@ add-copy-part c = search needs
 
 mul-copy-part : tie.Need-mul-copy-part
 mul-copy-part c =
-    let from = c .before .before .before .before .before .before .before .before .args in
-    record { fits = omega (arith, slot-fits (c .before .before .slot-at .result) (c .before .before .before .before .part-size .result) (length (from .work .now)) (omega arith) (omega (arith, c .before .before .before .before .part-size .ensures, c .before .before .before .before .before .before .before .before .pre .1))) }
+    let looked = c .before .before in
+    let sized = looked .before .before in
+    let start = sized .before .before .before .before in
+    let room : 5 * sized .part-size .result ≤ length (start .args .work .now) = omega (arith, sized .part-size .ensures, start .pre .1) in
+    record { fits = omega (arith, slot-fits (looked .slot-at .result) (sized .part-size .result) (length (start .args .work .now)) (omega arith) room) }
 
 copy-part-requires : tie.Need-copy-part-requires
 copy-part-requires c κs =
-    let from = c .before .before .before .before .before .before .before .before .args in
-    let w = c .before .before .before .before .part-size .result in
-    let slot = c .before .before .slot-at .result in
-    let fits = slot-fits slot w (length (from .work .now)) (omega arith) (omega (arith, c .before .before .before .before .part-size .ensures, c .before .before .before .before .before .before .before .before .pre .1)) in
-    record { goes = omega (arith, fits); comes = fits; apart = inl (omega (arith, slot-past slot w)) }
+    let looked = c .before .before in
+    let sized = looked .before .before in
+    let start = sized .before .before .before .before in
+    let room : 5 * sized .part-size .result ≤ length (start .args .work .now) = omega (arith, sized .part-size .ensures, start .pre .1) in
+    slot-apart (looked .slot-at .result) (sized .part-size .result) (length (start .args .work .now)) (omega arith) room
 
 mul-cue : tie.Need-mul-cue
 mul-cue c = search needs
@@ -48,14 +51,24 @@ same-length c = search needs
 
 returns-2 : tie.Need-returns-2
 returns-2 c =
-    let from = c .before .before .before .before .before .before .before .before .before .before .before .before .before .args in
-    restored-cue (from .instrument) (from .session) (from .work .now) (from .x) (c .before .before .before .before .before .before .before .before .before .before .if1 .left) _ _ (c .before .before .before .before .before .before .before .before .before .part-size .ensures) (c .before .before .before .before .before .before .before .slot-at .ensures .0) (c .before .before .before .before .before .before .before .slot-at .ensures .1) (omega arith) _ _ (c .before .before .before .before .copy-part .ensures)
+    let copied = c .before .before .before .before in
+    let looked = copied .before .before .before in
+    let slot = looked .slot-at .ensures in
+    let sized = looked .before .before in
+    let at = sized .before in
+    let from = at .before .before .before .args in
+    restored-cue (from .instrument) (from .session) (from .work .now) (from .x) (at .if1 .left) _ _ (sized .part-size .ensures) (slot .0) (slot .1) (omega arith) _ _
+    (copied .copy-part .ensures)
 
 slice-relend-prefix-silence-part : tie.Need-slice-relend-prefix-silence-part
-slice-relend-prefix-silence-part c = omega (arith, c .before .before .before .before .before .before .before .pre .1, c .before .before .before .part-size .ensures)
+slice-relend-prefix-silence-part c =
+    let sized = c .before .before .before in
+    omega (arith, sized .before .before .before .before .pre .1, sized .part-size .ensures)
 
 slice-aggregate-silence-part : tie.Need-slice-aggregate-silence-part
-slice-aggregate-silence-part c = sym (length-take-le _ _ (omega (arith, c .before .before .before .before .before .before .before .before .pre .1, c .before .before .before .before .part-size .ensures)))
+slice-aggregate-silence-part c =
+    let sized = c .before .before .before .before in
+    sym (length-take-le _ _ (omega (arith, sized .before .before .before .before .pre .1, sized .part-size .ensures)))
 
 silence-part-requires : tie.Need-silence-part-requires
 silence-part-requires c κs = search needs
@@ -68,8 +81,15 @@ same-length-2 c = search needs
 
 returns-3 : tie.Need-returns-3
 returns-3 c =
-    let from = c .before .before .before .before .before .before .before .before .before .before .before .before .args in
-    restored-silence (from .instrument) (from .session) (from .work .now) (from .x) (c .before .before .before .before .before .before .before .before .before .if1 .left) _ _ (c .before .before .before .before .before .before .before .before .part-size .ensures) (c .before .before .before .before .before .before .slot-at .ensures .0) (c .before .before .before .before .before .before .slot-at .ensures .1) (c .before .before .before .before .before .before .before .before .before .before .before .before .pre .0) (c .before .before .before .before .before .before .before .before .before .before .before .before .pre .1) (omega arith) _ _ (c .silent-piano .ensures) (c .before .before .before .silence-part .ensures)
+    let looked = c .before .before .before .before .before .before in
+    let slot = looked .slot-at .ensures in
+    let sized = looked .before .before in
+    let at = sized .before in
+    let start = at .before .before .before in
+    let from = start .args in
+    restored-silence (from .instrument) (from .session) (from .work .now) (from .x) (at .if1 .left) _ _ (sized .part-size .ensures) (slot .0) (slot .1) (start .pre .0) (start .pre .1)
+    (omega (arith, c .before .before .before .before .before)) _ _
+    (c .silent-piano .ensures) (c .before .before .before .silence-part .ensures)
 
 pub restore-spec : {M : Type 1} → statement M
 restore-spec =
