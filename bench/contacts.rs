@@ -1,47 +1,14 @@
 //! How often contact_force's guesses miss: the arguments of every contact are logged in renders of the Rust, and the
 //! proved search is asked how it found each force.
 
-#[allow(dead_code)]
-#[path = "../compare/common.rs"]
-mod common;
-#[path = "../compare/design.rs"]
-mod design;
 mod grand;
-#[allow(dead_code)]
-#[path = "../compare/instrument.rs"]
-mod instrument;
-#[allow(dead_code)]
-#[path = "../compare/instruments.rs"]
-mod instruments;
-#[allow(dead_code)]
-#[path = "../target/compare/logged.rs"]
-mod model;
-#[path = "../compare/power.rs"]
-mod power;
 
-/// The arguments of the contacts so far.
-mod contacts {
-    use std::cell::RefCell;
-
-    thread_local!(static LOG: RefCell<Vec<[f64; 5]>> = const { RefCell::new(Vec::new()) });
-
-    pub fn log(stiffness: f64, p: f64, eps_r: f64, c0: f64, c1: f64) {
-        LOG.with(|log| log.borrow_mut().push([stiffness, p, eps_r, c0, c1]));
-    }
-
-    pub fn taken() -> Vec<[f64; 5]> {
-        LOG.with(RefCell::take)
-    }
-}
-
-use common::Random;
-use instrument::Instrument;
-use instruments::{pick, Size};
-use model::Event;
-
-extern "C" {
-    fn leaf_force_trials(stiffness: f64, exponent: u32, eps_r: f64, c0: f64, c1: f64) -> u32;
-}
+use comparison::common::Random;
+use comparison::contacts;
+use comparison::exports::leaf_force_trials;
+use comparison::instrument::Instrument;
+use comparison::instruments::{self, pick, Size};
+use comparison::logged::Event;
 
 /// The calls of each way to a force: 0 no force, 1 the first guess, 2 the second, 3 neither.
 #[derive(Default)]
@@ -50,7 +17,7 @@ struct Ways([u64; 4]);
 impl Ways {
     fn count(&mut self) {
         for [stiffness, p, eps_r, c0, c1] in contacts::taken() {
-            let way = unsafe { leaf_force_trials(stiffness, (2.0 * p) as u32, eps_r, c0, c1) };
+            let way = leaf_force_trials(stiffness, (2.0 * p) as u32, eps_r, c0, c1);
             self.0[way as usize] += 1;
         }
     }
@@ -156,7 +123,7 @@ fn main() {
         for i in 0..kind.renders {
             let instrument = (kind.instrument)(&mut random, i);
             let events = strikes(&mut random, &instrument, kind.samples);
-            instrument.piano().render(kind.samples, &events);
+            instrument.logged_piano().render(kind.samples, &events);
             ways.count();
         }
         met &= report(&format!("{} renders, {}", kind.renders, kind.name), &ways, kind.held);

@@ -1,10 +1,17 @@
-//! The benches' instruments: a hammer and strings of a grand at 48 kHz.
+//! The benches' instruments: a hammer and strings of a grand at 48 kHz; and strikes of it.
+#![allow(dead_code)]
 
-use crate::design::LoopDesign;
-use crate::instrument::{Common, Instrument, Key};
+use comparison::design::LoopDesign;
+use comparison::instrument::{Common, Instrument, Key};
+use comparison::model::Event;
 
 /// The first key.
 pub const KEY: u8 = 40;
+
+/// Strikes of the first key, evenly apart in so many samples.
+pub fn strikes(count: usize, samples: usize) -> Vec<(usize, Event)> {
+    (0..count).map(|i| (i * samples / count, Event::NoteOn { key: KEY, velocity: 3.0 })).collect()
+}
 
 pub fn instrument(h: u32, keys: usize, strings: usize, ap_count: usize) -> Instrument {
     let common = Common {

@@ -1,33 +1,13 @@
 //! How the time of a sample grows with the strings, their stages and the contact of the hammer, beside the Rust; what one
 //! more string, stage or contact costs; and how many strings play in real time on this machine.
 
-#[allow(dead_code)]
-#[path = "../compare/common.rs"]
-mod common;
-#[path = "../compare/design.rs"]
-mod design;
 mod grand;
-#[allow(dead_code)]
-#[path = "../compare/instrument.rs"]
-mod instrument;
-#[allow(dead_code)]
 mod measure;
-#[allow(dead_code)]
-#[path = "../target/compare/model.rs"]
-mod model;
-#[path = "../compare/power.rs"]
-mod power;
-#[allow(dead_code)]
-#[path = "../target/compare/published.rs"]
-mod published;
-#[path = "../compare/rendering.rs"]
-mod rendering;
-#[allow(dead_code)]
 mod sides;
 
+use comparison::model::Event;
 use grand::{instrument, KEY};
 use measure::{measure, Measured};
-use model::Event;
 use sides::Sides;
 
 const SAMPLES: usize = 512;

@@ -1,40 +1,14 @@
 //! The leaves' times beside the Rust's: the root beside the processor's, the force and the filters beside the
 //! patched model.rs. Both sides get the same inputs, and their answers are held to be alike.
 
-#[allow(dead_code)]
-#[path = "../compare/common.rs"]
-mod common;
-#[path = "../compare/design.rs"]
-mod design;
 mod measure;
-#[allow(dead_code)]
-#[path = "../target/compare/model.rs"]
-mod model;
-#[path = "../compare/power.rs"]
-mod power;
 
-use common::{alike, all_alike, Random};
-use design::LoopDesign;
+use comparison::common::{alike, all_alike, Random};
+use comparison::design::LoopDesign;
+use comparison::exports;
+use comparison::model::inside::{self, Filters};
 use measure::{measure, report, Measured};
-use model::inside::{self, Filters};
 use std::hint::black_box;
-
-extern "C" {
-    fn leaf_root_chain(x: *const f64, count: usize) -> f64;
-    fn leaf_root_sweep(x: *mut f64, count: usize);
-    fn leaf_force_sweep(stiffness: f64, exponent: u32, eps_r: f64, c1: f64, c0: *mut f64, count: usize);
-    fn leaf_force_trials(stiffness: f64, exponent: u32, eps_r: f64, c0: f64, c1: f64) -> u32;
-    fn leaf_row_run(cells: *mut f64, cell_count: usize, a: f64, block: *mut f64, block_count: usize);
-    fn leaf_loop_filter(
-        cells: *mut f64,
-        count: usize,
-        thiran_a: f64,
-        ap_a: f64,
-        loss_g: f64,
-        loss_c: f64,
-        x: f64,
-    ) -> f64;
-}
 
 /// Both sides' numbers, the inputs put back before each turn.
 struct Block {
@@ -94,7 +68,7 @@ fn rust_root_sweep(x: &mut [f64]) {
 fn roots(rows: &mut Vec<Measured>, kind: &str, inputs: Vec<f64>, target: Option<f64>) {
     let calls = inputs.len();
     let rust = |x: &mut Vec<f64>| rust_root_chain(black_box(x));
-    let rattle = |x: &mut Vec<f64>| unsafe { leaf_root_chain(x.as_ptr(), x.len()) };
+    let rattle = |x: &mut Vec<f64>| exports::root_chain(x);
     let mut chained = inputs.clone();
     assert!(alike(rust(&mut chained), rattle(&mut chained)), "root, chain, {kind}: the two sides differ");
     rows.push(measure(&format!("root, chain, {kind}"), target, calls, &mut chained, |_| (), rust, rattle));
@@ -102,18 +76,11 @@ fn roots(rows: &mut Vec<Measured>, kind: &str, inputs: Vec<f64>, target: Option<
         &format!("root, sweep, {kind}"),
         None,
         |b| rust_root_sweep(black_box(&mut b.values)),
-        |b| unsafe { leaf_root_sweep(b.values.as_mut_ptr(), b.values.len()) },
+        |b| exports::root_sweep(&mut b.values),
     ));
 }
 
 // ---- the contact force
-
-#[inline(never)]
-fn rust_force_sweep(stiffness: f64, p: f64, eps_r: f64, c1: f64, c0: &mut [f64]) {
-    for c0 in c0 {
-        *c0 = inside::contact_force(stiffness, p, eps_r, *c0, c1);
-    }
-}
 
 /// Of a string with z = 7.5 at 48 kHz.
 const C1: f64 = 1.0 / 48_000.0 / (2.0 * 7.5);
@@ -125,8 +92,8 @@ fn force_row(what: &str, target: f64, stiffness: f64, h: u32, c1: f64, inputs: V
     Block::new(inputs).sweep(
         what,
         Some(target),
-        |b| rust_force_sweep(stiffness, black_box(h as f64 / 2.0), 0.0, c1, &mut b.values),
-        |b| unsafe { leaf_force_sweep(stiffness, h, 0.0, c1, b.values.as_mut_ptr(), b.values.len()) },
+        |b| inside::force_sweep(stiffness, h as f64 / 2.0, 0.0, c1, &mut b.values),
+        |b| exports::force_sweep(stiffness, h, 0.0, c1, &mut b.values),
     )
 }
 
@@ -144,7 +111,7 @@ fn forces(rows: &mut Vec<Measured>, random: &mut Random) {
 fn missed_forces(rows: &mut Vec<Measured>, random: &mut Random) {
     let (stiffness, c1) = (1e12, 1.0);
     for h in [3, 4, 9, 10] {
-        let misses = |c0: &f64| unsafe { leaf_force_trials(stiffness, h, 0.0, *c0, c1) } == 3;
+        let misses = |c0: &f64| exports::leaf_force_trials(stiffness, h, 0.0, *c0, c1) == 3;
         let drawn = (0..100 * DRAWN).map(|_| random.magnitude(15.0, 25.0));
         let inputs: Vec<f64> = drawn.filter(misses).take(DRAWN).collect();
         assert!(inputs.len() == DRAWN, "too few arguments that miss both guesses for h = {h}");
@@ -161,24 +128,9 @@ struct Strings {
     block: Block,
 }
 
-#[inline(never)]
-fn rust_row_run(filters: &mut Filters, block: &mut [f64]) {
-    for x in block {
-        *x = filters.row(*x);
-    }
-}
-
-#[inline(never)]
-fn rust_loop_run(filters: &mut Filters, block: &mut [f64]) {
-    for x in block {
-        *x = filters.loop_filter(*x);
-    }
-}
-
 fn filters(rows: &mut Vec<Measured>, random: &mut Random) {
     let design =
         LoopDesign { n_total: 4, ap_count: 66, phi: 0.0, thiran_a: 0.3, ap_a: -0.6, loss_g: 0.995, loss_c: 0.1 };
-    let LoopDesign { thiran_a, ap_a, loss_g, loss_c, .. } = design;
     let inputs: Vec<f64> = (0..256).map(|_| random.between(-1.0, 1.0)).collect();
     let calls = inputs.len();
     let string = |cells: usize| Strings {
@@ -193,11 +145,8 @@ fn filters(rows: &mut Vec<Measured>, random: &mut Random) {
         calls,
         &mut row,
         |s| s.block.ready(),
-        |s| rust_row_run(&mut s.rust, &mut s.block.values),
-        |s| unsafe {
-            let block = &mut s.block.values;
-            leaf_row_run(s.cells.as_mut_ptr(), s.cells.len(), black_box(ap_a), block.as_mut_ptr(), block.len())
-        },
+        |s| s.rust.row_run(&mut s.block.values),
+        |s| exports::row_run(&mut s.cells, design.ap_a, &mut s.block.values),
     ));
     rows.push(measure(
         "loop_filter with 66 stages",
@@ -205,10 +154,10 @@ fn filters(rows: &mut Vec<Measured>, random: &mut Random) {
         calls,
         &mut whole,
         |s| s.block.ready(),
-        |s| rust_loop_run(&mut s.rust, &mut s.block.values),
-        |s| unsafe {
+        |s| s.rust.loop_run(&mut s.block.values),
+        |s| {
             for x in &mut s.block.values {
-                *x = leaf_loop_filter(s.cells.as_mut_ptr(), s.cells.len(), thiran_a, ap_a, loss_g, loss_c, *x);
+                *x = exports::loop_filter(&mut s.cells, &design, *x);
             }
         },
     ));

@@ -1,4 +1,5 @@
 //! Two sides timed in turns, so that both meet the same machine; the best of many turns counts.
+#![allow(dead_code)]
 
 use std::hint::black_box;
 use std::time::Instant;

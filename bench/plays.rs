@@ -1,56 +1,44 @@
-//! Plays made in a loop in Rattle, under the name that the library session_exports gives them.
+//! A session at 0 with two strikes, and its samples played in a loop in Rattle.
 
-use crate::grand::KEY;
+use crate::grand::strikes;
+use comparison::events::opened;
+use comparison::exports::{self, Lent};
+use comparison::gingerfile::Console;
+use comparison::instrument::Instrument;
 
-/// Strikes of the first key.
-pub const STRIKES: u64 = 2;
-
-extern "C" {
-    fn session_play(
-        file: *const u8,
-        file_length: usize,
-        key: u8,
-        count: u64,
-        apart: u64,
-        blocks: u64,
-        work: *mut f64,
-        work_length: usize,
-        scratch: *mut f64,
-        scratch_length: usize,
-        out: *mut f64,
-        out_length: usize,
-        trace: *mut f64,
-        trace_length: usize,
-    ) -> u64;
+pub struct Played {
+    pub file: Vec<u8>,
+    pub console: Console,
+    /// The words of its session, before the first play.
+    pub words: Vec<u64>,
+    pub scratch: Vec<f64>,
+    pub out: Vec<f64>,
+    pub trace: Vec<f64>,
 }
 
-/// What plays are made in.
-pub struct Lent<'a> {
-    pub work: &'a mut [f64],
-    pub scratch: &'a mut [f64],
-    pub out: &'a mut [f64],
-    pub trace: &'a mut [f64],
-}
+impl Played {
+    pub fn new(instrument: &Instrument, samples: usize) -> Played {
+        let console = opened(instrument, &strikes(2, samples)).unwrap();
+        Played {
+            file: instrument.bytes(),
+            words: console.words().to_vec(),
+            console,
+            scratch: vec![0.0; 6 * instrument.string_count()],
+            out: vec![0.0; samples],
+            trace: vec![0.0; samples],
+        }
+    }
 
-/// A session opened and struck, then `blocks` plays of the output's length, each over the one before; it gives the forces
-/// of the last.
-pub fn plays(file: &[u8], apart: u64, blocks: u64, lent: Lent) -> u64 {
-    unsafe {
-        session_play(
-            file.as_ptr(),
-            file.len(),
-            KEY,
-            STRIKES,
-            apart,
-            blocks,
-            lent.work.as_mut_ptr(),
-            lent.work.len(),
-            lent.scratch.as_mut_ptr(),
-            lent.scratch.len(),
-            lent.out.as_mut_ptr(),
-            lent.out.len(),
-            lent.trace.as_mut_ptr(),
-            lent.trace.len(),
-        )
+    pub fn ready(&mut self) {
+        self.console.set_words(&self.words);
+        self.console.work_mut().fill(0.0);
+    }
+
+    /// Plays of `block`, each over the one before; it gives the forces of the last, which stands first in the output.
+    pub fn plays(&mut self, block: usize) -> u64 {
+        let Played { file, words, console, scratch, out, trace } = self;
+        let blocks = (out.len() / block) as u64;
+        let (out, trace) = (&mut out[..block], &mut trace[..block]);
+        exports::plays(file, words, blocks, Lent { work: console.work_mut(), scratch, out, trace })
     }
 }

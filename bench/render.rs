@@ -1,39 +1,13 @@
 //! The renderer's times beside the Rust's, a sample: with the power of document 01 on the Rust's side, which the
 //! targets are for, and with `powf` as published. Both sides start in silence and get the same score.
 
-#[allow(dead_code)]
-#[path = "../compare/common.rs"]
-mod common;
-#[path = "../compare/design.rs"]
-mod design;
 mod grand;
-#[allow(dead_code)]
-#[path = "../compare/instrument.rs"]
-mod instrument;
-#[allow(dead_code)]
 mod measure;
-#[allow(dead_code)]
-#[path = "../target/compare/model.rs"]
-mod model;
-#[path = "../compare/power.rs"]
-mod power;
-#[allow(dead_code)]
-#[path = "../target/compare/published.rs"]
-mod published;
-#[path = "../compare/rendering.rs"]
-mod rendering;
 mod sides;
 
-use grand::{instrument, KEY};
+use grand::{instrument, strikes};
 use measure::{measure, report, Measured};
-use model::Event;
 use sides::Sides;
-
-/// Strikes of the first key, evenly apart.
-fn strikes(setup: &Setup) -> Vec<(usize, Event)> {
-    let position = |i: usize| i * setup.samples / setup.strikes;
-    (0..setup.strikes).map(|i| (position(i), Event::NoteOn { key: KEY, velocity: 3.0 })).collect()
-}
 
 struct Setup {
     name: &'static str,
@@ -100,7 +74,7 @@ fn rows_of(rows: &mut Vec<Measured>, setup: &Setup) {
     for h in [4, 5] {
         let samples = setup.samples;
         let instrument = instrument(h, setup.keys, setup.strings, setup.ap_count);
-        let mut sides = Sides::new(instrument, samples, strikes(setup), 0);
+        let mut sides = Sides::new(instrument, samples, strikes(setup.strikes, samples), 0);
         let share = sides.checked(setup.name);
         let what = format!("{}, h = {h}, {:.0} % in contact", setup.name, 100.0 * share);
         let target = setup.targets.map(|t| t[h as usize % 2]);
@@ -114,7 +88,14 @@ fn rows_of(rows: &mut Vec<Measured>, setup: &Setup) {
 /// position 0.
 fn others(rows: &mut Vec<Measured>, setup: &Setup) {
     let (name, samples, late) = (setup.name, setup.samples, 1_900_000_000);
-    let made = |t| Sides::new(instrument(4, setup.keys, setup.strings, setup.ap_count), samples, strikes(setup), t);
+    let made = |t| {
+        Sides::new(
+            instrument(4, setup.keys, setup.strings, setup.ap_count),
+            samples,
+            strikes(setup.strikes, samples),
+            t,
+        )
+    };
     let (mut sides, what) = (made(0), format!("{name}, h = 4, blocks of 64"));
     rows.push(measure(&what, None, samples, &mut sides, Sides::ready, Sides::rust, |s| s.rattle(64)));
     rows.push(measure(

@@ -1,10 +1,9 @@
-//! The program `rehearse` in ordinary Rust: a script's lines, their answers by the plain machine and the Rust's
-//! renders, and the bytes of its files.
+//! The program `rehearse` in ordinary Rust: a script's lines, and their answers by the plain machine and the Rust's
+//! renders.
 
-use crate::common::word;
-use crate::instrument::Instrument;
 use crate::machine::{Edited, Lent, Machine, Renders};
-use crate::model::Event;
+use comparison::instrument::Instrument;
+use comparison::model::Event;
 
 /// The program's own memory, which no `lend` exceeds.
 pub const SCRATCH: u64 = 256;
@@ -228,37 +227,4 @@ pub fn answers(instrument: &Instrument, script: &str) -> Vec<Answer> {
     let lines = script.lines().enumerate();
     let answers = lines.filter_map(|(i, line)| console.line(i + 1, line));
     std::iter::once(opened(instrument)).chain(answers).collect()
-}
-
-// ---- the files
-
-/// The header of a mono WAV of 64-bit floats.
-pub const HEADER: usize = 58;
-
-pub fn wav_header(fs: f64, count: usize) -> Vec<u8> {
-    let rate = fs.round() as u32;
-    let size = 8 * count as u32;
-    let mut header = Vec::new();
-    header.extend(b"RIFF");
-    header.extend((HEADER as u32 - 8 + size).to_le_bytes());
-    header.extend(b"WAVEfmt ");
-    header.extend(18u32.to_le_bytes());
-    header.extend(3u16.to_le_bytes()); // floats
-    header.extend(1u16.to_le_bytes()); // mono
-    header.extend(rate.to_le_bytes());
-    header.extend((8 * rate).to_le_bytes());
-    header.extend(8u16.to_le_bytes());
-    header.extend(64u16.to_le_bytes());
-    header.extend(0u16.to_le_bytes()); // no more fields
-    header.extend(b"fact");
-    header.extend(4u32.to_le_bytes());
-    header.extend((count as u32).to_le_bytes());
-    header.extend(b"data");
-    header.extend(size.to_le_bytes());
-    header
-}
-
-/// Every NaN is written as one pattern.
-pub fn float_bytes(floats: impl Iterator<Item = f64>) -> Vec<u8> {
-    floats.flat_map(|x| word(x).to_le_bytes()).collect()
 }

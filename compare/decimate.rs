@@ -3,21 +3,77 @@
 //! their order. Cells around the output, and on refusal the output itself, must stay as they were. Then the program
 //! `decimate`, which goes through a file in blocks: `decimate PROGRAM FOLDER` runs it on files in FOLDER.
 
-#[allow(dead_code)]
-mod common;
-mod decimating;
-mod design;
-#[allow(dead_code)]
-#[path = "../target/compare/model.rs"]
-mod model;
-mod power;
 mod wave_files;
 
-use common::{alike, Random};
-use decimating::{refusal_of, Output, MOST, TAPS};
+use comparison::common::{alike, Random};
+use comparison::gingerfile::{decimate_into, Refusal};
+use comparison::model;
+use comparison::waves::{float_bytes, floats, wave, HEADER};
 use std::collections::BTreeMap;
 use std::process::exit;
-use wave_files::{cluttered, float_bytes, wave, Program};
+use wave_files::{cluttered, Program};
+
+const TAPS: usize = 127;
+
+/// The longest input.
+const MOST: usize = 1_048_576;
+
+/// "copies for 0 or 1 into an output of the input's length; otherwise output holds length/factor rounded up"
+fn output_length(length: usize, factor: usize) -> usize {
+    if factor <= 1 {
+        length
+    } else {
+        length.div_ceil(factor)
+    }
+}
+
+/// 17 to 19, in their order.
+fn refusal_of(length: usize, tap_count: usize, factor: usize, room: usize) -> u64 {
+    if factor > 64 || length > MOST {
+        17
+    } else if tap_count != TAPS {
+        18
+    } else if room != output_length(length, factor) {
+        19
+    } else {
+        0
+    }
+}
+
+/// An output in the middle of cells that no one may write.
+struct Output(Vec<f64>);
+
+const FENCE: usize = 130;
+
+const UNTOUCHED: f64 = 4242.0;
+
+impl Output {
+    fn new(length: usize) -> Output {
+        Output(vec![UNTOUCHED; length + 2 * FENCE])
+    }
+
+    fn cells(&self) -> &[f64] {
+        &self.0[FENCE..self.0.len() - FENCE]
+    }
+
+    /// Gives the refusal's number, 0 for none.
+    fn decimate(&mut self, x: &[f64], taps: &[f64], factor: usize) -> u64 {
+        let end = self.0.len() - FENCE;
+        decimate_into(x, taps, factor, &mut self.0[FENCE..end]).map_or_else(|Refusal(number)| number, |()| 0)
+    }
+
+    /// Whether the cells around the output are as they were.
+    fn is_fenced(&self) -> bool {
+        let end = self.0.len() - FENCE;
+        self.0[..FENCE].iter().chain(&self.0[end..]).all(|cell| *cell == UNTOUCHED)
+    }
+
+    fn is_untouched(&self) -> bool {
+        self.cells().iter().all(|cell| *cell == UNTOUCHED)
+    }
+}
+
+// ---- signals and taps
 
 /// Lengths at which the taps reach past one end, both or none.
 const LENGTHS: [usize; 20] = [0, 1, 2, 3, 31, 62, 63, 64, 65, 66, 100, 125, 126, 127, 128, 129, 130, 189, 190, 254];
@@ -48,7 +104,7 @@ struct Counts {
     outputs: u64,
     sounding: u64,
     infinite: u64,
-    refused: BTreeMap<u32, u64>,
+    refused: BTreeMap<u64, u64>,
     untouched: u64,
     files: u64,
     file_outputs: u64,
@@ -124,7 +180,7 @@ fn refused(counts: &mut Counts) {
     let taps = vec![0.25; TAPS + 1];
     for factor in (0..=64).chain([65, 66, 100, 127, 1 << 20, 1 << 40, usize::MAX]) {
         for length in [0, 1, 63, 128, 1_000, MOST, MOST + 1, MOST + 2] {
-            let right = decimating::output_length(length, factor);
+            let right = output_length(length, factor);
             for tap_count in [0, 1, 126, 127, 128] {
                 for room in [0, right.saturating_sub(1), right, right + 1] {
                     let expected = refusal_of(length, tap_count, factor, room);
@@ -172,13 +228,12 @@ fn file_differs(counts: &mut Counts, program: &Program, x: &[f64], taps: &[f64],
         fail(format!("{given}: it says {:?} and complains {:?}", run.said, run.complained));
     }
     let expected = wave(rounded, &rust);
-    // zeros count alike, so the samples are compared as numbers
-    let plain = |bytes: &[u8]| bytes[58..].chunks_exact(8).map(|b| f64::from_le_bytes(b.try_into().unwrap())).collect();
-    let Some(output) = run.output.filter(|output| output.len() == expected.len() && output[..58] == expected[..58])
-    else {
+    let same_header = |output: &Vec<u8>| output.len() == expected.len() && output[..HEADER] == expected[..HEADER];
+    let Some(output) = run.output.filter(same_header) else {
         fail(format!("{given}: another file"));
     };
-    let found: Vec<f64> = plain(&output);
+    // zeros count alike, so the samples are compared as numbers
+    let found = floats(&output[HEADER..]);
     if let Some(at) = (0..rust.len()).find(|i| !alike(rust[*i], found[*i])) {
         fail(format!("{given}: output {at} is {:e}, and the Rust has {:e}", found[at], rust[at]));
     }

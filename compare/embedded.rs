@@ -6,32 +6,21 @@
 #[allow(dead_code)]
 #[path = "../target/compare/analysis.rs"]
 mod analysis;
-mod design;
 #[allow(dead_code)]
 #[path = "../target/compare/designer.rs"]
 mod designer;
 #[allow(dead_code)]
 #[path = "../target/compare/fft.rs"]
 mod fft;
-#[allow(dead_code)]
-mod instrument;
-#[allow(dead_code)]
-#[path = "../target/compare/model.rs"]
-mod model;
-mod power;
 
-use design::LoopDesign;
+use comparison::design::LoopDesign;
+use comparison::instrument::{Common, Instrument, Key, KEY, STRING};
+use comparison::model::Event;
 use designer::DesignTargets;
-use instrument::{Common, Instrument, Key};
-use model::Event;
 use std::fmt::Write as _;
 use std::process::exit;
 
 const FS: f64 = 44_100.0;
-
-/// The bytes of a key before its strings, and of a string.
-const KEY: usize = 36;
-const STRING: usize = 44;
 
 /// Impedance, mass and stiffness of a real string and hammer, all divided by this: the same motion, at a useful
 /// loudness.

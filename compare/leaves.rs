@@ -1,54 +1,17 @@
 //! Compares each proved leaf with the Rust: the root with the processor's, the power with document 01's, and the
 //! rest with the patched model.rs. With a file's name it also writes a sample of the answers there.
 
-mod common;
-mod design;
-#[allow(dead_code)]
-#[path = "../target/compare/model.rs"]
-mod model;
-mod power;
-
-use common::{alike, all_alike, edges, word, Random, Tally};
-use design::LoopDesign;
-use model::inside::{self, Filters};
-
-extern "C" {
-    fn leaf_root(x: f64) -> f64;
-    fn leaf_power(x: f64, h: u32) -> f64;
-    fn leaf_min(a: f64, b: f64) -> f64;
-    fn leaf_max(a: f64, b: f64) -> f64;
-    fn leaf_clamp(x: f64, lo: f64, hi: f64) -> f64;
-    fn leaf_positive_part(x: f64) -> f64;
-    fn leaf_round_away(x: f64) -> u64;
-    fn leaf_contact_force(
-        stiffness: f64,
-        exponent: u32,
-        eps: f64,
-        mass: f64,
-        tau: f64,
-        eps_r: f64,
-        c0: f64,
-        c1: f64,
-    ) -> f64;
-    fn leaf_cut_string(n: usize, phi: f64, strike_ratio: f64, damper_ratio: f64, lengths: &mut [usize; 3]);
-    fn leaf_allpass(cells: *mut f64, count: usize, a: f64, x: f64) -> f64;
-    fn leaf_dispersion(cells: *mut f64, count: usize, a: f64, x: f64) -> f64;
-    fn leaf_loop_filter(
-        cells: *mut f64,
-        count: usize,
-        thiran_a: f64,
-        ap_a: f64,
-        loss_g: f64,
-        loss_c: f64,
-        x: f64,
-    ) -> f64;
-}
+use comparison::common::{alike, all_alike, edges, word, Random, Tally};
+use comparison::design::LoopDesign;
+use comparison::exports::{self, *};
+use comparison::model::inside::{self, Filters};
+use comparison::power::power;
 
 // ---- root
 
 /// Zeros are compared by their bits: either zero gives itself.
 fn root_of(tally: &mut Tally, x: f64) {
-    let (rust, rattle) = (x.sqrt(), unsafe { leaf_root(x) });
+    let (rust, rattle) = (x.sqrt(), leaf_root(x));
     let agree = word(rust) == word(rattle);
     tally.answer(agree, &[word(x)], &[word(rust)], &[word(rattle)]);
 }
@@ -119,7 +82,7 @@ fn roots(stride: u64) -> Tally {
 // ---- power, and the float operations
 
 fn power_of(tally: &mut Tally, x: f64, h: u32) {
-    let (rust, rattle) = (power::power(x, h), unsafe { leaf_power(x, h) });
+    let (rust, rattle) = (power(x, h), leaf_power(x, h));
     tally.answer(alike(rust, rattle), &[word(x), h as u64], &[word(rust)], &[word(rattle)]);
 }
 
@@ -160,13 +123,13 @@ fn on_pairs(seed: u64, mut f: impl FnMut(f64, f64)) {
 
 fn minima(stride: u64) -> Tally {
     let mut tally = Tally::new("min", stride);
-    on_pairs(3, |a, b| tally.float(&[a, b], a.min(b), unsafe { leaf_min(a, b) }));
+    on_pairs(3, |a, b| tally.float(&[a, b], a.min(b), leaf_min(a, b)));
     tally
 }
 
 fn maxima(stride: u64) -> Tally {
     let mut tally = Tally::new("max", stride);
-    on_pairs(4, |a, b| tally.float(&[a, b], a.max(b), unsafe { leaf_max(a, b) }));
+    on_pairs(4, |a, b| tally.float(&[a, b], a.max(b), leaf_max(a, b)));
     tally
 }
 
@@ -177,7 +140,7 @@ fn clamps(stride: u64) -> Tally {
     on_pairs(6, |lo, hi| {
         if lo <= hi {
             for x in [random.edge(), random.tame_or_wild(-10.0, 10.0), lo, hi] {
-                tally.float(&[x, lo, hi], x.clamp(lo, hi), unsafe { leaf_clamp(x, lo, hi) });
+                tally.float(&[x, lo, hi], x.clamp(lo, hi), leaf_clamp(x, lo, hi));
             }
         }
     });
@@ -186,12 +149,12 @@ fn clamps(stride: u64) -> Tally {
 
 fn positive_parts(stride: u64) -> Tally {
     let mut tally = Tally::new("positive_part", stride);
-    on_pairs(7, |x, _| tally.float(&[x], x.max(0.0), unsafe { leaf_positive_part(x) }));
+    on_pairs(7, |x, _| tally.float(&[x], x.max(0.0), leaf_positive_part(x)));
     tally
 }
 
 fn rounded(tally: &mut Tally, x: f64) {
-    let (rust, rattle) = (x.round() as usize as u64, unsafe { leaf_round_away(x) });
+    let (rust, rattle) = (x.round() as usize as u64, leaf_round_away(x));
     tally.answer(rust == rattle, &[word(x)], &[rust], &[rattle]);
 }
 
@@ -232,7 +195,7 @@ struct Contact {
 fn force_of(tally: &mut Tally, random: &mut Random, c: Contact) {
     let [eps, mass, tau] = [random.any(), random.any(), random.any()];
     let rust = inside::contact_force(c.stiffness, c.exponent as f64 / 2.0, c.eps_r, c.c0, c.c1);
-    let rattle = unsafe { leaf_contact_force(c.stiffness, c.exponent, eps, mass, tau, c.eps_r, c.c0, c.c1) };
+    let rattle = leaf_contact_force(c.stiffness, c.exponent, eps, mass, tau, c.eps_r, c.c0, c.c1);
     let given = [word(c.stiffness), c.exponent as u64, word(c.eps_r), word(c.c0), word(c.c1)];
     tally.answer(alike(rust, rattle), &given, &[word(rust)], &[word(rattle)]);
 }
@@ -241,7 +204,7 @@ fn force_of(tally: &mut Tally, random: &mut Random, c: Contact) {
 fn ordinary(random: &mut Random, exponent: u32) -> Contact {
     let c0 = random.magnitude(-7.0, -2.0);
     let stiffness = random.magnitude(3.0, 13.0);
-    let eps_r = random.between(0.0, 1.2) * random.below(2) as f64 * power::power(c0, exponent);
+    let eps_r = random.between(0.0, 1.2) * random.below(2) as f64 * power(c0, exponent);
     Contact { stiffness, exponent, eps_r, c0, c1: random.magnitude(-8.0, -3.0) }
 }
 
@@ -287,7 +250,7 @@ fn cut(tally: &mut Tally, n: usize, phi: f64, strike_ratio: f64, damper_ratio: f
     let design = LoopDesign { n_total: n, phi, ..LoopDesign::default() };
     let rust = inside::cuts(&design, strike_ratio, damper_ratio);
     let mut rattle = [0; 3];
-    unsafe { leaf_cut_string(n, phi, strike_ratio, damper_ratio, &mut rattle) };
+    leaf_cut_string(n, phi, strike_ratio, damper_ratio, &mut rattle);
     let given = [n as u64, word(phi), word(strike_ratio), word(damper_ratio)];
     let words = |lengths: [usize; 3]| lengths.map(|length| length as u64);
     tally.answer(rust == rattle, &given, &words(rust), &words(rattle));
@@ -339,8 +302,8 @@ impl Lent {
         Lent { all: [&outside, cells, &outside].concat(), count: cells.len() }
     }
 
-    fn pointer(&mut self) -> *mut f64 {
-        self.all[4..].as_mut_ptr()
+    fn cells_mut(&mut self) -> &mut [f64] {
+        &mut self.all[4..4 + self.count]
     }
 
     fn cells(&self) -> &[f64] {
@@ -357,21 +320,26 @@ fn filter_words(numbers: &[f64], cells: &[f64]) -> Vec<u64> {
     numbers.iter().chain(cells).map(|x| word(*x)).collect()
 }
 
-/// One step of a filter: the cells it was lent, its coefficients and its input, then what both sides give.
-struct Step<'a> {
-    before: &'a [f64],
-    numbers: &'a [f64],
-    rust: f64,
-    rust_cells: &'a [f64],
-    rattle: f64,
-    lent: &'a Lent,
-}
-
-fn filtered(tally: &mut Tally, s: Step) {
-    let cells = s.lent.cells();
-    let agree = alike(s.rust, s.rattle) && all_alike(s.rust_cells, cells) && s.lent.outside_kept();
-    let given = filter_words(s.numbers, s.before);
-    tally.answer(agree, &given, &filter_words(&[s.rust], s.rust_cells), &filter_words(&[s.rattle], cells));
+/// Steps of a filter on both sides, each on the cells that the one before left. Either side gives its output for an
+/// input, the Rust's its cells too.
+fn steps(
+    tally: &mut Tally,
+    random: &mut Random,
+    count: usize,
+    lent: &mut Lent,
+    coefficients: &[f64],
+    mut rust: impl FnMut(f64) -> (f64, Vec<f64>),
+    rattle: impl Fn(&mut [f64], f64) -> f64,
+) {
+    for _ in 0..count {
+        let [x] = filter_numbers(random);
+        let given = filter_words(&[coefficients, &[x]].concat(), lent.cells());
+        let found = rattle(lent.cells_mut(), x);
+        let (expected, expected_cells) = rust(x);
+        let cells = lent.cells();
+        let agree = alike(expected, found) && all_alike(&expected_cells, cells) && lent.outside_kept();
+        tally.answer(agree, &given, &filter_words(&[expected], &expected_cells), &filter_words(&[found], cells));
+    }
 }
 
 /// Coefficients and cells: tame in seven turns of eight.
@@ -393,16 +361,8 @@ fn allpasses(stride: u64) -> Tally {
         let mut lent = Lent::new(&filter_cells(&mut random, 2));
         let mut rust = Filters::new(&LoopDesign { n_total: 4, thiran_a: a, ..LoopDesign::default() });
         rust.set_thiran(lent.cells());
-        for _ in 0..25 {
-            let [x] = filter_numbers(&mut random);
-            let before = lent.cells().to_vec();
-            let rattle = unsafe { leaf_allpass(lent.pointer(), 2, a, x) };
-            let y = rust.thiran(x);
-            let rust_cells = rust.thiran_cells();
-            let step =
-                Step { before: &before, numbers: &[a, x], rust: y, rust_cells: &rust_cells, rattle, lent: &lent };
-            filtered(&mut tally, step);
-        }
+        let side = |x| (rust.thiran(x), rust.thiran_cells().to_vec());
+        steps(&mut tally, &mut random, 25, &mut lent, &[a], side, |cells, x| exports::allpass(cells, a, x));
     }
     tally
 }
@@ -418,17 +378,9 @@ fn rows(stride: u64) -> Tally {
             let design = LoopDesign { n_total: 4, ap_count: count / 2, ap_a: a, ..LoopDesign::default() };
             let mut rust = Filters::new(&design);
             rust.set_row(lent.cells());
-            for _ in 0..20 {
-                let [x] = filter_numbers(&mut random);
-                let before = lent.cells().to_vec();
-                let rattle = unsafe { leaf_dispersion(lent.pointer(), count, a, x) };
-                let y = rust.row(x);
-                let mut rust_cells = rust.row_cells();
-                rust_cells.extend(&before[count / 2 * 2..]);
-                let step =
-                    Step { before: &before, numbers: &[a, x], rust: y, rust_cells: &rust_cells, rattle, lent: &lent };
-                filtered(&mut tally, step);
-            }
+            let odd = lent.cells()[count / 2 * 2..].to_vec();
+            let side = |x| (rust.row(x), [rust.row_cells(), odd.clone()].concat());
+            steps(&mut tally, &mut random, 20, &mut lent, &[a], side, |cells, x| exports::dispersion(cells, a, x));
         }
     }
     tally
@@ -439,7 +391,8 @@ fn loop_filters(stride: u64) -> Tally {
     let mut random = Random::new(13);
     for ap_count in 0..=66 {
         for _ in 0..25 {
-            let [thiran_a, ap_a, loss_g, loss_c] = filter_numbers(&mut random);
+            let coefficients = filter_numbers(&mut random);
+            let [thiran_a, ap_a, loss_g, loss_c] = coefficients;
             let count = 2 * ap_count + 3;
             let mut lent = Lent::new(&filter_cells(&mut random, count));
             let design = LoopDesign { n_total: 4, ap_count, phi: 0.0, thiran_a, ap_a, loss_g, loss_c };
@@ -447,17 +400,9 @@ fn loop_filters(stride: u64) -> Tally {
             rust.set_thiran(&lent.cells()[..2]);
             rust.set_row(&lent.cells()[2..count - 1]);
             rust.set_loss(lent.cells()[count - 1]);
-            for _ in 0..20 {
-                let [x] = filter_numbers(&mut random);
-                let before = lent.cells().to_vec();
-                let rattle = unsafe { leaf_loop_filter(lent.pointer(), count, thiran_a, ap_a, loss_g, loss_c, x) };
-                let y = rust.loop_filter(x);
-                let numbers = [thiran_a, ap_a, loss_g, loss_c, x];
-                let rust_cells = rust.cells();
-                let step =
-                    Step { before: &before, numbers: &numbers, rust: y, rust_cells: &rust_cells, rattle, lent: &lent };
-                filtered(&mut tally, step);
-            }
+            let side = |x| (rust.loop_filter(x), rust.cells());
+            let rattle = |cells: &mut [f64], x| exports::loop_filter(cells, &design, x);
+            steps(&mut tally, &mut random, 20, &mut lent, &coefficients, side, rattle);
         }
     }
     tally

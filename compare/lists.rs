@@ -1,11 +1,11 @@
 //! Random lists of calls for the program `rehearse`: an instrument and a script that goes to the edges of every
 //! number, by what the plain machine holds at that line.
 
-use crate::common::Random;
 use crate::console::{Call, Console, BLOCK, SCRATCH, TRACE, WORK};
-use crate::instrument::Instrument;
-use crate::instruments::{self, pick, Size};
 use crate::machine::{END, MOST_EVENTS, MOST_REPLAYED};
+use comparison::common::Random;
+use comparison::instrument::Instrument;
+use comparison::instruments::{self, pick, Size};
 
 /// What a list is mostly made of.
 #[derive(Clone, Copy, PartialEq, Eq, Debug)]

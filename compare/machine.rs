@@ -1,8 +1,8 @@
 //! Document 01, "The session": the plain machine, a score, a position and at most four cue positions; and the
 //! standing score's render by the Rust, always one unbroken run from silence.
 
-use crate::instrument::Instrument;
-use crate::model::Event;
+use comparison::instrument::Instrument;
+use comparison::model::Event;
 use std::collections::{BTreeSet, HashMap};
 
 /// No position is above it.

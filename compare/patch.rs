@@ -1,7 +1,7 @@
-//! Writes the Rust renderer that we compare with: `patch FROM TO` reads model.rs and changes it only where
-//! document 01 says that we part from it. Each change must fit exactly as often as it is expected to.
-//! `patch FROM TO published` leaves `powf` as published, and `patch FROM TO logged` has each contact's arguments
-//! handed to `crate::contacts::log`; both are for the benches.
+//! Writes the Rust renderer that we compare with: `patch FROM FOLDER` reads model.rs and changes it only where document 01
+//! says that we part from it. Each change must fit exactly as often as it is expected to. FOLDER gets model.rs, and for
+//! the benches published.rs, which has `powf` as published, and logged.rs, which hands each contact's arguments to
+//! `crate::contacts::log`.
 
 use std::process::exit;
 
@@ -54,10 +54,13 @@ enum Kind {
     Logged,
 }
 
+const MADE: [(Kind, &str); 3] =
+    [(Kind::Compared, "model.rs"), (Kind::Published, "published.rs"), (Kind::Logged, "logged.rs")];
+
 /// A child module sees the private items of its parent; a `use` may stand anywhere in a module.
 const APPENDED: &str = "
 use crate::power::PowerInHalfSteps;
-#[path = \"../../compare/inside.rs\"]
+#[path = \"../../compare/lib/inside.rs\"]
 pub mod inside;
 ";
 
@@ -66,15 +69,8 @@ fn fail(message: String) -> ! {
     exit(1)
 }
 
-fn main() {
-    let arguments: Vec<String> = std::env::args().skip(1).collect();
-    let (from, to, kind) = match arguments.as_slice() {
-        [from, to] => (from, to, Kind::Compared),
-        [from, to, last] if last == "published" => (from, to, Kind::Published),
-        [from, to, last] if last == "logged" => (from, to, Kind::Logged),
-        _ => fail("usage: patch FROM TO [published|logged]".to_string()),
-    };
-    let mut text = std::fs::read_to_string(from).unwrap_or_else(|e| fail(format!("{from}: {e}")));
+fn patched(from: &str, published: &str, kind: Kind) -> String {
+    let mut text = published.to_string();
     for patch in &PATCHES {
         let found = text.matches(patch.from).count();
         if found != patch.times {
@@ -96,5 +92,17 @@ fn main() {
     if kind != Kind::Published {
         text.push_str(APPENDED);
     }
-    std::fs::write(to, text).unwrap_or_else(|e| fail(format!("{to}: {e}")));
+    text
+}
+
+fn main() {
+    let arguments: Vec<String> = std::env::args().skip(1).collect();
+    let [from, folder] = arguments.as_slice() else {
+        fail("usage: patch FROM FOLDER".to_string());
+    };
+    let published = std::fs::read_to_string(from).unwrap_or_else(|e| fail(format!("{from}: {e}")));
+    for (kind, name) in MADE {
+        let to = format!("{folder}/{name}");
+        std::fs::write(&to, patched(from, &published, kind)).unwrap_or_else(|e| fail(format!("{to}: {e}")));
+    }
 }

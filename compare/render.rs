@@ -1,28 +1,16 @@
 //! Compares the proved renderer with the Rust: random instruments and scores, every sample and force, and after each
 //! block the whole state and the keys' energies, bit for bit, zeros and NaNs alike; energies of random cells too. The
-//! proved side is cut into blocks at random places; the Rust renders from silence in one run. With a file's name it also
-//! writes a sample of the Rust's renders there.
+//! proved side plays a session of the library gingerfile, cut into blocks at random places; the Rust renders from silence
+//! in one run. With a file's name it also writes a sample of the Rust's renders there.
 
-#[allow(dead_code)]
-mod common;
-mod design;
-mod energies;
-#[allow(dead_code)]
-mod instrument;
-#[allow(dead_code)]
-mod instruments;
-#[allow(dead_code)]
-#[path = "../target/compare/model.rs"]
-mod model;
-mod power;
-mod rendering;
 mod stored_renders;
 
-use common::{alike, all_alike, Random};
-use instrument::Instrument;
-use instruments::{pick, Size};
-use model::{inside, Event, Piano};
-use rendering::{Buffers, Score, Small};
+use comparison::common::{alike, all_alike, Random};
+use comparison::events::opened;
+use comparison::gingerfile::{Console, Refusal, PIANO};
+use comparison::instrument::Instrument;
+use comparison::instruments::{self, pick, Size};
+use comparison::model::{inside, Event, Piano};
 use std::collections::BTreeMap;
 use std::process::exit;
 
@@ -134,18 +122,24 @@ struct Counts {
     infinite_energies: u64,
 }
 
-/// The energies of a part's cells against those of the Rust whose lines hold them.
-fn energies_differ(counts: &mut Counts, rust: &Piano, file: &[u8], part: &[f64]) -> Option<String> {
+/// The energies of the cells in work memory against those of the Rust whose lines hold them.
+fn energies_differ(counts: &mut Counts, rust: &Piano, console: &Console) -> Option<String> {
     let expected = rust.key_energies();
-    let Some(found) = energies::energies(file, part) else {
-        return Some("energies past the last key".to_string());
+    let found = match console.key_energies() {
+        Ok(found) => found,
+        Err(Refusal(number)) => return Some(format!("energies: refused {number}")),
     };
-    counts.energies += found.len() as u64;
-    counts.loud += found.iter().filter(|(_, energy)| *energy != 0.0 && energy.is_finite()).count() as u64;
-    counts.infinite_energies += found.iter().filter(|(_, energy)| !energy.is_finite()).count() as u64;
+    let mut pairs: Vec<(u8, f64)> = found.keys.into_iter().zip(found.energies).collect();
+    let past = pairs.split_off(found.count);
+    if !past.iter().all(|(key, energy)| *key == 0 && energy.to_bits() == 0) {
+        return Some("energies past the last key".to_string());
+    }
+    counts.energies += pairs.len() as u64;
+    counts.loud += pairs.iter().filter(|(_, energy)| *energy != 0.0 && energy.is_finite()).count() as u64;
+    counts.infinite_energies += pairs.iter().filter(|(_, energy)| !energy.is_finite()).count() as u64;
     let same =
-        expected.len() == found.len() && expected.iter().zip(&found).all(|((k, x), (l, y))| k == l && alike(*x, *y));
-    (!same).then(|| format!("energies: the Rust has {expected:?}, the proved ones are {found:?}"))
+        expected.len() == pairs.len() && expected.iter().zip(&pairs).all(|((k, x), (l, y))| k == l && alike(*x, *y));
+    (!same).then(|| format!("energies: the Rust has {expected:?}, the proved ones are {pairs:?}"))
 }
 
 /// Cells of one kind: any bit pattern, edges, ordinary numbers, or numbers whose sums round.
@@ -160,24 +154,36 @@ fn random_cells(random: &mut Random, count: usize) -> Vec<f64> {
     (0..count).map(|_| cell(random)).collect()
 }
 
-/// The whole state, and where it differs.
-fn state_differs(rust: &Piano, small: &Small, part: &[f64]) -> Option<String> {
-    let keys = inside::keys(rust);
-    let flies = if small.flies { Some((small.key_index, small.y_h, small.v_h)) } else { None };
-    let hammers = match (inside::hammer(rust), flies) {
-        (None, None) => true,
-        (Some((k, y, v)), Some((l, z, w))) => k == l && alike(y, z) && alike(v, w),
-        _ => false,
+/// The energies of random cells.
+fn random_energies_differ(counts: &mut Counts, instrument: &Instrument, cells: &[f64]) -> Option<String> {
+    let mut piano = instrument.piano();
+    inside::set_lines(&mut piano, cells);
+    let mut console = match Console::open(&instrument.bytes()) {
+        Ok(console) => console,
+        Err(Refusal(number)) => return Some(format!("refused {number}")),
     };
-    let dampers: Vec<f64> = keys.iter().map(|(_, _, r)| *r).collect();
-    let pressed = keys.iter().enumerate();
+    console.work_mut()[..cells.len()].copy_from_slice(cells);
+    energies_differ(counts, &piano, &console)
+}
+
+/// The whole state, and where it differs. A session's words for the piano now: held, hand_damped and damper_r of each
+/// key, pedal, whether a hammer flies, its key, y_h and v_h, contact_samples, peak_force.
+fn state_differs(rust: &Piano, words: &[u64], part: &[f64]) -> Option<String> {
+    let keys = inside::keys(rust);
+    let words = &words[PIANO..];
+    let float = |i: usize| f64::from_bits(words[i]);
+    let hammers = match inside::hammer(rust) {
+        None => words[49] == 0,
+        Some((key, y, v)) => words[49] == 1 && key as u64 == words[50] && alike(y, float(51)) && alike(v, float(52)),
+    };
+    let of_keys = |same: &dyn Fn(usize, &(bool, bool, f64)) -> bool| keys.iter().enumerate().all(|(i, k)| same(i, k));
     let checks = [
-        ("contact_samples", rust.contact_samples as u64 == small.contact_samples),
-        ("peak_force", alike(rust.peak_force, small.peak_force)),
-        ("damper_r", all_alike(&dampers, &small.damper_r[..dampers.len()])),
-        ("held", pressed.clone().all(|(i, (held, _, _))| *held == small.held[i])),
-        ("hand_damped", pressed.clone().all(|(i, (_, damped, _))| *damped == small.hand_damped[i])),
-        ("pedal", inside::pedal(rust) == small.pedal),
+        ("contact_samples", rust.contact_samples as u64 == words[53]),
+        ("peak_force", alike(rust.peak_force, float(54))),
+        ("damper_r", of_keys(&|i, (_, _, r)| alike(*r, float(32 + i)))),
+        ("held", of_keys(&|i, (held, _, _)| *held as u64 == words[i])),
+        ("hand_damped", of_keys(&|i, (_, damped, _)| *damped as u64 == words[16 + i])),
+        ("pedal", inside::pedal(rust) as u64 == words[48]),
         ("hammer", hammers),
         ("cells", all_alike(&inside::part(rust), part)),
     ];
@@ -199,28 +205,32 @@ fn differs(
     events: &[(usize, Event)],
     blocks: &[usize],
 ) -> Option<String> {
-    let (file, score) = (instrument.bytes(), Score::new(events));
-    let mut part = vec![0.0; instrument.cells()];
-    let mut small = Small::silence();
+    let mut console = match opened(instrument, events) {
+        Ok(console) => console,
+        Err(Refusal(number)) => return Some(format!("refused {number}")),
+    };
+    let cells = instrument.cells();
     let (mut t, mut forces) = (0, 0);
     for &length in blocks {
-        let mut scratch = vec![f64::NAN; 6 * instrument.string_count()];
         let (mut out, mut trace) = (vec![UNTOUCHED; length], vec![UNTOUCHED; length + 1]);
-        let lent = Buffers { part: &mut part, scratch: &mut scratch, out: &mut out, trace: &mut trace };
-        small = rendering::block(&file, &score, small, t as u64, lent);
+        let found = match console.play(&mut out, &mut trace) {
+            Ok(found) => found,
+            Err(Refusal(number)) => return Some(format!("block of {length} from {t}: refused {number}")),
+        };
+        let part = &console.work()[..cells];
         let mut rust = instrument.piano();
         let samples = rust.render(t + length, events);
         let pushed = &rust.force_trace[forces..];
-        let difference = if pushed.len() == small.forces {
+        let difference = if pushed.len() == found {
             first_difference("sample", &samples[t..], &out)
                 .or_else(|| first_difference("force", pushed, &trace))
                 .or_else(|| {
                     first_difference("trace", &vec![UNTOUCHED; length + 1 - pushed.len()], &trace[pushed.len()..])
                 })
-                .or_else(|| state_differs(&rust, &small, &part))
-                .or_else(|| energies_differ(counts, &rust, &file, &part))
+                .or_else(|| state_differs(&rust, console.words(), part))
+                .or_else(|| energies_differ(counts, &rust, &console))
         } else {
-            Some(format!("{} forces, and the Rust has {}", small.forces, pushed.len()))
+            Some(format!("{found} forces, and the Rust has {}", pushed.len()))
         };
         if let Some(difference) = difference {
             return Some(format!("block of {length} from {t}: {difference}"));
@@ -276,10 +286,8 @@ fn main() {
             let events = score(&mut random, &keys, samples);
             let blocks = blocks(&mut random, samples);
             let cells = random_cells(&mut random, instrument.cells());
-            let mut piano = instrument.piano();
-            inside::set_lines(&mut piano, &cells);
             if let Some(difference) = differs(&mut counts, &instrument, &events, &blocks)
-                .or_else(|| energies_differ(&mut counts, &piano, &instrument.bytes(), &cells))
+                .or_else(|| random_energies_differ(&mut counts, &instrument, &cells))
             {
                 println!("render {turn} of kind `{}`, blocks {blocks:?}, events {events:?}", kind.name);
                 println!("{difference}");

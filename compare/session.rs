@@ -3,22 +3,14 @@
 //! every answer, sample and force to the reference's. With --end it runs but one list, which goes to the last
 //! position. SAMPLE gets some of the lists with what they must give.
 
-#[allow(dead_code)]
-mod common;
-#[allow(dead_code)]
 mod console;
-mod design;
-mod instrument;
-mod instruments;
 mod lists;
 mod machine;
-#[allow(dead_code)]
-#[path = "../target/compare/model.rs"]
-mod model;
-mod power;
 
-use common::{alike, word, Random};
-use console::{Answer, HEADER};
+use comparison::common::{alike, word, Random};
+use comparison::waves::{floats, wave, HEADER};
+use comparison::{instrument, instruments};
+use console::Answer;
 use lists::{List, Theme};
 use std::collections::BTreeMap;
 use std::fmt::Write as _;
@@ -153,10 +145,6 @@ fn lines_alike(reference: &str, program: &str) -> bool {
 
 // ---- a whole list
 
-fn floats(bytes: &[u8]) -> Vec<f64> {
-    bytes.chunks_exact(8).map(|b| f64::from_le_bytes(b.try_into().unwrap())).collect()
-}
-
 /// The first difference between a file's floats and the reference's.
 fn floats_differ(what: &str, reference: &[f64], bytes: &[u8]) -> Option<String> {
     if bytes.len() != 8 * reference.len() {
@@ -184,8 +172,9 @@ fn wav_differs(fs: f64, samples: &[f64], wav: Option<&[u8]>) -> Option<String> {
     let Some(wav) = wav else {
         return Some("the program wrote no WAV file".to_string());
     };
-    let header = console::wav_header(fs, samples.len());
-    if wav.len() < HEADER || wav[..HEADER] != header {
+    let written = wave(fs.round() as u32, samples);
+    let header = &written[..HEADER];
+    if wav.len() < HEADER || &wav[..HEADER] != header {
         let head = &wav[..wav.len().min(HEADER)];
         return Some(format!("the WAV's header: the reference has {header:02x?}, the program {head:02x?}"));
     }

@@ -1,9 +1,9 @@
-//! A sample of the Rust's renders as lines, for the program replay_render: `instrument` (the file's length and bytes),
+//! A sample of the Rust's renders as lines, for the program test_render: `instrument` (the file's length and bytes),
 //! `event` (position, kind, key, velocity), and after them `block` with every sample and force, or `run` with a digest
 //! of them; both with the whole state behind the block. Every word is sixteen hexadecimal digits.
 
-use crate::instrument::Instrument;
-use crate::model::{inside, Event, Piano};
+use comparison::instrument::Instrument;
+use comparison::model::{inside, Event, Piano};
 
 fn line(kind: &str, words: &[u64]) -> String {
     words.iter().fold(kind.to_string(), |line, word| format!("{line} {word:016x}"))

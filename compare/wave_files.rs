@@ -1,48 +1,11 @@
-//! WAV files of 64-bit floats, taps, and the program `decimate` run on them.
+//! Files for the program `decimate`, good and broken, and its runs on them.
 
+use comparison::waves::{chunk, float_bytes, format, riff};
 use std::fs;
 use std::path::{Path, PathBuf};
 use std::process::Command;
 
-fn chunk(name: &[u8; 4], body: &[u8]) -> Vec<u8> {
-    let mut bytes = name.to_vec();
-    bytes.extend((body.len() as u32).to_le_bytes());
-    bytes.extend(body);
-    bytes.resize(bytes.len() + body.len() % 2, 0);
-    bytes
-}
-
-fn format(tag: u16, channels: u16, rate: u32, bits: u16) -> Vec<u8> {
-    let mut body = tag.to_le_bytes().to_vec();
-    body.extend(channels.to_le_bytes());
-    body.extend(rate.to_le_bytes());
-    body.extend((8 * rate).to_le_bytes());
-    body.extend(8u16.to_le_bytes());
-    body.extend(bits.to_le_bytes());
-    body.extend(0u16.to_le_bytes());
-    chunk(b"fmt ", &body)
-}
-
-/// Every NaN as one pattern.
-pub fn float_bytes(numbers: &[f64]) -> Vec<u8> {
-    numbers
-        .iter()
-        .flat_map(|x| if x.is_nan() { f64::NAN.to_bits() & !(1 << 63) } else { x.to_bits() }.to_le_bytes())
-        .collect()
-}
-
-/// A file of chunks.
-pub fn riff(chunks: &[Vec<u8>]) -> Vec<u8> {
-    chunk(b"RIFF", &[b"WAVE".to_vec(), chunks.concat()].concat())
-}
-
-/// The file that the program writes.
-pub fn wave(rate: u32, samples: &[f64]) -> Vec<u8> {
-    let count = (samples.len() as u32).to_le_bytes();
-    riff(&[format(3, 1, rate, 64), chunk(b"fact", &count), chunk(b"data", &float_bytes(samples))])
-}
-
-/// The same samples with other chunks before, between and after.
+/// A file with other chunks before, between and after the samples.
 pub fn cluttered(rate: u32, samples: &[f64]) -> Vec<u8> {
     riff(&[
         chunk(b"LIST", &[7; 5]),

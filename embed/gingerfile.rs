@@ -3,8 +3,10 @@
 
 /// Words of a session; see `gingerfile.h` for what stands where.
 pub const WORDS: usize = 541;
-const T: usize = 0;
+pub const T: usize = 0;
 const COUNT: usize = 1;
+/// Where the piano now begins.
+pub const PIANO: usize = 486;
 const CONTACT_SAMPLES: usize = 539;
 
 /// A refusal's number, 1 to 19. A refused call has changed nothing.
@@ -44,12 +46,13 @@ struct Sizes {
     scratch: usize,
 }
 
+/// Each key's energy and number in the file's order, zeros past the last.
 #[repr(C)]
-struct KeyEnergies {
+pub struct KeyEnergies {
     refusal: u64,
-    count: usize,
-    energies: [f64; 16],
-    keys: [u8; 16],
+    pub count: usize,
+    pub energies: [f64; 16],
+    pub keys: [u8; 16],
 }
 
 #[rustfmt::skip]
@@ -81,25 +84,52 @@ extern "C" {
     ) -> u64;
 }
 
-/// Every factor-th sample of x behind 127 taps; a copy for factor 0 or 1.
-pub fn decimate(x: &[f64], taps: &[f64], factor: usize) -> Result<Vec<f64>, Refusal> {
-    let mut out = vec![0.0; unsafe { gingerfile_decimated(x.len(), factor) }];
-    let refusal = unsafe {
-        gingerfile_decimate(x.as_ptr(), x.len(), taps.as_ptr(), taps.len(), factor, out.as_mut_ptr(), out.len())
+/// Calls a function of the library. A slice is handed over as its pointer and its length: those that are read, then those
+/// that are written, then the numbers. The slices of a call are distinct, and the library reads and writes within them
+/// alone, which is proved.
+macro_rules! call {
+    ($function:ident, [$($read:expr),*], [$($written:expr),*] $(, $number:expr)*) => {
+        unsafe { $function($($read.as_ptr(), $read.len(),)* $($written.as_mut_ptr(), $written.len(),)* $($number),*) }
     };
-    if refusal == 0 {
-        Ok(out)
-    } else {
-        Err(Refusal(refusal))
+}
+
+/// A refusal's number, 0 for none.
+fn accepted(number: u64) -> Result<(), Refusal> {
+    match number {
+        0 => Ok(()),
+        number => Err(Refusal(number)),
     }
+}
+
+/// Every factor-th sample of x behind 127 taps, into an output of `decimated_length`; a copy for factor 0 or 1.
+pub fn decimate_into(x: &[f64], taps: &[f64], factor: usize, out: &mut [f64]) -> Result<(), Refusal> {
+    let [x_start, taps_start] = [x, taps].map(<[f64]>::as_ptr);
+    accepted(unsafe {
+        gingerfile_decimate(x_start, x.len(), taps_start, taps.len(), factor, out.as_mut_ptr(), out.len())
+    })
+}
+
+/// How many samples the decimator makes of n.
+pub fn decimated_length(n: usize, factor: usize) -> usize {
+    unsafe { gingerfile_decimated(n, factor) }
+}
+
+/// The same into memory of its own.
+pub fn decimate(x: &[f64], taps: &[f64], factor: usize) -> Result<Vec<f64>, Refusal> {
+    let mut out = vec![0.0; decimated_length(x.len(), factor)];
+    decimate_into(x, taps, factor, &mut out)?;
+    Ok(out)
 }
 
 impl Reply {
     fn accepted(self) -> Result<Reply, Refusal> {
-        match self.refusal {
-            0 => Ok(self),
-            number => Err(Refusal(number)),
-        }
+        accepted(self.refusal)?;
+        Ok(self)
+    }
+
+    fn edited(self) -> Result<Edited, Refusal> {
+        let Reply { value, dropped, .. } = self.accepted()?;
+        Ok(Edited { t: value, dropped })
     }
 }
 
@@ -112,79 +142,42 @@ pub struct Console {
     scratch: Vec<f64>,
 }
 
-// Every pointer below is a slice's, handed over with the slice's length; the slices are distinct, and the library reads and
-// writes within them alone, which is proved.
 impl Console {
     /// Reads an instrument file and opens a session on it.
     pub fn open(file: &[u8]) -> Result<Console, Refusal> {
-        let sizes = unsafe { gingerfile_read(file.as_ptr(), file.len()) };
-        if sizes.refusal != 0 {
-            return Err(Refusal(sizes.refusal));
-        }
+        let sizes = call!(gingerfile_read, [file], []);
+        accepted(sizes.refusal)?;
         let mut console = Console {
             file: file.to_vec(),
             fs: sizes.fs,
             words: vec![0; sizes.words],
             work: vec![0.0; sizes.work],
-            scratch: vec![0.0; sizes.scratch],
+            // what stands in scratch decides nothing
+            scratch: vec![f64::NAN; sizes.scratch],
         };
         let Console { file, words, work, .. } = &mut console;
-        unsafe {
-            gingerfile_open(file.as_ptr(), file.len(), words.as_mut_ptr(), words.len(), work.as_mut_ptr(), work.len())
-        }
-        .accepted()?;
+        call!(gingerfile_open, [file], [words, work]).accepted()?;
         Ok(console)
     }
 
     /// Renders as many samples as `out` has; gives the number of forces, which stand first in `trace`.
     pub fn play(&mut self, out: &mut [f64], trace: &mut [f64]) -> Result<usize, Refusal> {
         let Console { file, words, work, scratch, .. } = self;
-        let reply = unsafe {
-            gingerfile_play(
-                file.as_ptr(),
-                file.len(),
-                words.as_mut_ptr(),
-                words.len(),
-                work.as_mut_ptr(),
-                work.len(),
-                scratch.as_mut_ptr(),
-                scratch.len(),
-                out.as_mut_ptr(),
-                out.len(),
-                trace.as_mut_ptr(),
-                trace.len(),
-            )
-        };
-        Ok(reply.accepted()?.value as usize)
+        let reply = call!(gingerfile_play, [file], [words, work, scratch, out, trace]).accepted()?;
+        Ok(reply.value as usize)
     }
 
     /// Keeps the state at the position now.
     pub fn cue(&mut self) -> Result<(), Refusal> {
         let Console { file, words, work, .. } = self;
-        unsafe {
-            gingerfile_cue(file.as_ptr(), file.len(), words.as_mut_ptr(), words.len(), work.as_mut_ptr(), work.len())
-        }
-        .accepted()?;
+        call!(gingerfile_cue, [file], [words, work]).accepted()?;
         Ok(())
     }
 
     /// To position p; gives the number of samples that were replayed.
     pub fn go(&mut self, p: u64) -> Result<u64, Refusal> {
         let Console { file, words, work, scratch, .. } = self;
-        let reply = unsafe {
-            gingerfile_go(
-                file.as_ptr(),
-                file.len(),
-                words.as_mut_ptr(),
-                words.len(),
-                work.as_mut_ptr(),
-                work.len(),
-                scratch.as_mut_ptr(),
-                scratch.len(),
-                p,
-            )
-        };
-        Ok(reply.accepted()?.value)
+        Ok(call!(gingerfile_go, [file], [words, work, scratch], p).accepted()?.value)
     }
 
     /// Places an event after all events at or before its position.
@@ -196,52 +189,27 @@ impl Console {
             Event::HandDamp { key } => (3, key as u64, 0.0),
         };
         let Console { file, words, work, .. } = self;
-        let reply = unsafe {
-            gingerfile_insert(
-                file.as_ptr(),
-                file.len(),
-                words.as_mut_ptr(),
-                words.len(),
-                work.as_mut_ptr(),
-                work.len(),
-                position,
-                kind,
-                key,
-                velocity,
-            )
-        }
-        .accepted()?;
-        Ok(Edited { t: reply.value, dropped: reply.dropped })
+        call!(gingerfile_insert, [file], [words, work], position, kind, key, velocity).edited()
     }
 
     /// Removes the event at an index from 0.
     pub fn remove(&mut self, index: usize) -> Result<Edited, Refusal> {
         let Console { file, words, work, .. } = self;
-        let reply = unsafe {
-            gingerfile_remove(
-                file.as_ptr(),
-                file.len(),
-                words.as_mut_ptr(),
-                words.len(),
-                work.as_mut_ptr(),
-                work.len(),
-                index,
-            )
-        }
-        .accepted()?;
-        Ok(Edited { t: reply.value, dropped: reply.dropped })
+        call!(gingerfile_remove, [file], [words, work], index).edited()
+    }
+
+    /// Each key's energy now, as the library gives them.
+    pub fn key_energies(&self) -> Result<KeyEnergies, Refusal> {
+        let Console { file, words, work, .. } = self;
+        let answer = call!(gingerfile_energies, [file, words, work], []);
+        accepted(answer.refusal)?;
+        Ok(answer)
     }
 
     /// Each key's number and its energy now, in the file's order.
     pub fn energies(&self) -> Result<Vec<(u8, f64)>, Refusal> {
-        let Console { file, words, work, .. } = self;
-        let answer = unsafe {
-            gingerfile_energies(file.as_ptr(), file.len(), words.as_ptr(), words.len(), work.as_ptr(), work.len())
-        };
-        match answer.refusal {
-            0 => Ok((0..answer.count).map(|k| (answer.keys[k], answer.energies[k])).collect()),
-            number => Err(Refusal(number)),
-        }
+        let KeyEnergies { count, energies, keys, .. } = self.key_energies()?;
+        Ok(keys.into_iter().zip(energies).take(count).collect())
     }
 
     /// Samples a second.
@@ -270,5 +238,16 @@ impl Console {
     /// Puts words back that were kept; whether they are a session's, the next call says.
     pub fn set_words(&mut self, words: &[u64]) {
         self.words = words.to_vec();
+    }
+
+    /// Work memory, to keep beside the words: five parts of equal size, the strings' cells now in the first, the four
+    /// cues' behind it.
+    pub fn work(&self) -> &[f64] {
+        &self.work
+    }
+
+    /// The same, to put back what was kept.
+    pub fn work_mut(&mut self) -> &mut [f64] {
+        &mut self.work
     }
 }
