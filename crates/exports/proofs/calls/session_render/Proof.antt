@@ -2,7 +2,7 @@
 use mathlib.Core.Path.{_≡_, sym, _∙_}
 use native.Mathlib.Omega.{arith}
 use borrow.Author.Tests.{not-false}
-use Rattle.instrument.specs.WorkLaws.{cells-are}
+use Rattle.instrument.specs.WorkLaws.{part-counted}
 use Rattle.render.specs.Work.{valid-renderable}
 use borrow.Author.Needs.{needs}
 use Rattle.exports.proofs.calls.session_render.Statement.{statement}
@@ -37,7 +37,7 @@ rendered-requires c κs =
     let valid = checked .before .before in
     let i = valid .before .before .read .result .instrument in
     let passes = sym (valid .is-valid .ensures) ∙ not-false _ (checked .before .if1 .left) in
-    let w = sym (checked .part-cells .ensures .0 ∙ cells-are i passes) in
+    let w = sym (checked .part-cells .ensures .0 ∙ part-counted i passes) in
     valid-renderable i passes _ _ (omega (arith, w, cells .if2 .left)) (room .if3 .left)
 
 same-length : tie.Need-same-length
