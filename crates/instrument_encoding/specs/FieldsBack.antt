@@ -18,7 +18,8 @@ use Rattle.instrument_fields.specs.Fields.{hammerOf, damperOf, commonOf, keyOf,
 use Rattle.instrument_fields.specs.Ranges.{ofWhole, hammerInRange, commonInRange, stringInRange}
 use Rattle.instrument_fields.specs.Unused.{isPlusZero, isNoKey, isNoString, noKey, noString}
 use Rattle.instrument_encoding.specs.Encode.{commonBytes, stringBytes, fourBytes, headBytes}
-use Rattle.instrument_encoding.specs.Typed.{Fit, FitCommon, FitKey, FitString}
+use Rattle.little_endian.specs.Floats.{Fit}
+use Rattle.instrument_encoding.specs.Typed.{FitCommon, FitKey, FitString}
 
 -- ---- each record from its bytes: the path from one record to the other goes field by field
 

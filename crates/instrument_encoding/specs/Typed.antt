@@ -2,17 +2,13 @@
 -- nothing.
 use mathlib.Core.Path.{_≡_}
 use Prim.Native.Nat.{ℕ, _<_}
-use lib.Dec.{T}
 use lib.ListN.{length}
-use lib.Ieee.{Float, binary64, fits}
+use Rattle.little_endian.specs.Floats.{Fit}
 use Rattle.instrument_fields.specs.declared.Common.{Common}
 use Rattle.instrument_fields.specs.declared.KeyDesign.{KeyDesign}
 use Rattle.instrument_fields.specs.declared.LoopDesign.{LoopDesign}
 use Rattle.instrument.specs.declared.Instrument.{Instrument}
 use Rattle.instrument.specs.Valid.{keyAt, stringAt}
-
-abbrev pub Fit : Float → Type 0
-Fit x = T (fits binary64 x)
 
 pub record FitCommon (c : Common) : Type 0 where
   pub fs : Fit (c .fs)

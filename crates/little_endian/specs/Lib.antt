@@ -1,3 +1,4 @@
 pub mod Numbers
+pub mod Floats
 pub mod Places
 pub mod Bytes

@@ -1,6 +1,6 @@
 // Document 01, "Instrument file": "Little-endian." Whole numbers and floats at a place in lent bytes, for every place: past the end the bytes count as 0.
 ghost use mathlib.Core.Path.{_≡_};
-ghost use lib.Ieee.{binary64, ofBits};
+ghost use lib.Ieee.{binary64, ofBits, toBits};
 ghost use lib.ListN.{take, drop};
 ghost use Rattle.little_endian.specs.Numbers.{byteAt, u16At, u32At, u64At, f64At};
 
@@ -85,6 +85,17 @@ pub fn float_of(bits: u64) -> f64
         0.0 / 0.0
     } else {
         f64::from_bits(bits)
+    }
+}
+
+// A float's bits; one pattern stands for every NaN.
+pub fn bits_of(x: f64) -> u64
+    ensures { λ r. ⌜ r ≡ toBits binary64 x ⌝ }
+{
+    if x != x {
+        0x7ff8_0000_0000_0000
+    } else {
+        f64::to_bits(x)
     }
 }
 

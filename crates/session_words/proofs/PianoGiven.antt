@@ -11,6 +11,7 @@ use denote.Shadow.{shadow}
 use denote.Enum.Declared as Chosen
 use denote.Struct.Declared as Declared
 use denote.Struct.Field.{bool-field, f64-field}
+use Rattle.little_endian.specs.Floats.{Fit}
 use Rattle.points.specs.declared.HammerState.{HammerState}
 use Rattle.points.specs.declared.HammerState.the-variants.{Resting, Flying}
 use Rattle.points.proofs.HammerState as HammerType
@@ -19,7 +20,7 @@ use Rattle.sample.proofs.Motion as MotionType
 use Rattle.score.specs.declared.Piano.{Piano}
 use Rattle.score.proofs.Piano as PianoType
 use Rattle.session_words.specs.Items.{AllOf}
-use Rattle.session_words.specs.PianoLaws.{Fit, FitHammer, FitMotion, FitPiano}
+use Rattle.session_words.specs.PianoLaws.{FitHammer, FitMotion, FitPiano}
 
 -- what owning one element tells holds of each element of an array
 pub all-owned : {C D : Type 0} (to : C → D) (own : D → List Val → Fml) (P : C → Type 0) → ((x : C) (v : Val) → shadow (own (to x) (v ∷ [])) → P x)

@@ -13,6 +13,7 @@ use lib.Seq.{drop-at, drop-drop, ext-getD}
 use borrow.Author.Tests.{eq-eqb, eqb-true}
 use Rattle.counting.specs.Every.{and-left, and-right}
 use Rattle.counting.specs.Laws.{all-build, all-at}
+use Rattle.little_endian.specs.Floats.{Fit}
 use Rattle.score.specs.declared.Event.{Event}
 use Rattle.score.specs.declared.Event.the-variants.{NoteOn, NoteOff, Pedal, HandDamp}
 use Rattle.score.specs.declared.TimedEvent.{TimedEvent}
@@ -21,7 +22,7 @@ use Rattle.session_record.specs.declared.Session.{Session}
 use Rattle.session_words.specs.Layout.{eventSize, timedSize, cueSize, cuePianoOffset, eventsOffset, cuesOffset, pianoOffset, sessionSize}
 use Rattle.session_words.specs.Items.{joined, itemsOf, AllOf, joined-length, items-back, items-length, all-items}
 use Rattle.session_words.specs.Piano.{pianoWords, pianoOf}
-use Rattle.session_words.specs.PianoLaws.{Fit, FitPiano, flag-back, piano-length, piano-back, fit-piano-of}
+use Rattle.session_words.specs.PianoLaws.{FitPiano, flag-back, piano-length, piano-back, fit-piano-of}
 use Rattle.session_words.specs.Session.{eventOf, eventWords, timedWords, timedOf, cueWords, cueOf, wordsOf, sessionOf, isSession}
 
 unfoldable pub FitEvent : Event → Type 0

@@ -5,11 +5,12 @@ use mathlib.Core.Bool.{Bool, true, false, cond}
 use mathlib.Core.List.{List, [], _∷_, _++_, append-assoc}
 use Prim.Native.Nat.{ℕ, _+_}
 use native.Mathlib.Omega.{arith}
-use lib.Dec.{T, eqb}
-use lib.Ieee.{Float, binary64, fits, ofBits, toBits}
+use lib.Dec.{eqb}
+use lib.Ieee.{Float, binary64, ofBits, toBits}
 use lib.Ieee.Bits.{ofBits-toBits, ofBits-fits}
 use lib.ListN.{length, getD, drop, length-append}
 use lib.Seq.{drop-at, drop-drop}
+use Rattle.little_endian.specs.Floats.{Fit}
 use Rattle.points.specs.declared.HammerState.{HammerState}
 use Rattle.points.specs.declared.HammerState.the-variants.{Resting, Flying}
 use Rattle.sample.specs.declared.Motion.{Motion}
@@ -17,9 +18,6 @@ use Rattle.score.specs.declared.Piano.{Piano}
 use Rattle.session_words.specs.Layout.{hammerSize, motionSize, peakOffset, handDampedOffset, dampersOffset, pedalOffset, motionOffset, pianoSize}
 use Rattle.session_words.specs.Items.{joined, itemsOf, AllOf, joined-length, items-length, items-back, all-items}
 use Rattle.session_words.specs.Piano.{bitOf, flagWord, flagOf, floatWord, floatOf, hammerWords, hammerFrom, motionWords, motionOf, pianoWords, pianoOf}
-
-abbrev pub Fit : Float → Type 0
-Fit x = T (fits binary64 x)
 
 -- nothing is asked
 abbrev pub Any : {A : Type 0} → A → Type 0

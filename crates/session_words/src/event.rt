@@ -9,7 +9,6 @@ ghost use Rattle.session_words.specs.Session.{eventOf, isEvent, eventWor
 use crate::layout::EVENTS_OFFSET;
 use crate::layout::TIMED_SIZE;
 use crate::word::bit_of;
-use crate::word::bits_of;
 use crate::word::put_three;
 use crate::word::put_word;
 use crate::word::word_at;
@@ -51,7 +50,13 @@ fn put_event(words: &mut [u64], at: usize, event: Event)
     ensures { λ _. ⌜ now (words .exit) ≡ sets (now (words .entry)) at (eventWords event) ⌝ }
 {
     match event {
-        Event::NoteOn { key, velocity } => put_three(words, at, 0, key as u64, bits_of(velocity)),
+        Event::NoteOn { key, velocity } => put_three(
+            words,
+            at,
+            0,
+            key as u64,
+            little_endian::bits_of(velocity),
+        ),
         Event::NoteOff { key } => put_three(words, at, 1, key as u64, 0),
         Event::Pedal(down) => put_three(words, at, 2, bit_of(down), 0),
         Event::HandDamp { key } => put_three(words, at, 3, key as u64, 0),

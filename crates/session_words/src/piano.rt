@@ -13,7 +13,6 @@ use crate::layout::MOTION_OFFSET;
 use crate::layout::PEAK_OFFSET;
 use crate::layout::PEDAL_OFFSET;
 use crate::word::bit_of;
-use crate::word::bits_of;
 use crate::word::put_three;
 use crate::word::put_word;
 use crate::word::word_at;
@@ -46,7 +45,7 @@ fn put_floats(words: &mut [u64], at: usize, floats: [f64; 16])
     ensures { λ _. ⌜ now (words .exit) ≡ sets (now (words .entry)) at (joined floatWord floats) ⌝ }
 {
     for i in 0usize..16usize {
-        put_word(words, at + i, bits_of(floats[i]));
+        put_word(words, at + i, little_endian::bits_of(floats[i]));
     }
 }
 
@@ -76,7 +75,13 @@ fn put_hammer(words: &mut [u64], at: usize, hammer: HammerState)
             v_h,
         } => {
             put_word(words, at, 1);
-            put_three(words, at + 1, key_index as u64, bits_of(y_h), bits_of(v_h));
+            put_three(
+                words,
+                at + 1,
+                key_index as u64,
+                little_endian::bits_of(y_h),
+                little_endian::bits_of(v_h),
+            );
         }
     }
 }
@@ -107,7 +112,11 @@ fn put_motion(words: &mut [u64], at: usize, motion: Motion)
     let hammer = motion.hammer;
     put_hammer(words, at, hammer);
     put_word(words, at + CONTACT_OFFSET, motion.contact_samples);
-    put_word(words, at + PEAK_OFFSET, bits_of(motion.peak_force));
+    put_word(
+        words,
+        at + PEAK_OFFSET,
+        little_endian::bits_of(motion.peak_force),
+    );
 }
 
 fn motion_at(words: &[u64], at: usize) -> Motion

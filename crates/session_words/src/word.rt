@@ -1,8 +1,7 @@
-// Words of a lent slice, read and written, and what a bool or a float is as a word.
+// Words of a lent slice, read and written, and what a bool is as a word.
 ghost use mathlib.Core.Path.{_≡_};
 ghost use mathlib.Core.List.{[], _∷_};
 ghost use Prim.Native.Nat.{_+_, _≤_, _<_};
-ghost use lib.Ieee.{binary64, toBits};
 ghost use lib.ListN.{length, getD, set};
 ghost use lib.Seq.{sets};
 ghost use Rattle.session_words.specs.Piano.{bitOf};
@@ -28,17 +27,6 @@ pub fn put_three(words: &mut [u64], at: usize, a: u64, b: u64, c: u64)
     put_word(words, at, a);
     put_word(words, at + 1, b);
     put_word(words, at + 2, c);
-}
-
-// A float's bits; one pattern stands for every NaN.
-pub fn bits_of(x: f64) -> u64
-    ensures { λ r. ⌜ r ≡ toBits binary64 x ⌝ }
-{
-    if x != x {
-        0x7ff8_0000_0000_0000
-    } else {
-        f64::to_bits(x)
-    }
 }
 
 pub fn bit_of(flag: bool) -> u64

@@ -5,8 +5,8 @@ use lib.Dec.{T}
 use lib.Ieee.{binary64, toBits}
 use Rattle.float.specs.Numbers.{same-number, differs-nan}
 use borrow.Author.Needs.{needs}
-use Rattle.session_words.proofs.word.bits_of.Statement.{statement}
-use Rattle.session_words.proofs.word.bits_of.Tie as tie
+use Rattle.little_endian.proofs.bits_of.Statement.{statement}
+use Rattle.little_endian.proofs.bits_of.Tie as tie
 
 float-to-bits-result : tie.Need-float-to-bits-result
 float-to-bits-result c = subst (λ (t : Bool). T (not t)) (sym (same-number (c .before .args .x) (c .if1 .left))) tt
