@@ -7,7 +7,7 @@ use native.Mathlib.Omega.{arith}
 use native.Mathlib.Nat.{add-sub-of-le}
 use native.Mathlib.Numerals.{add-one}
 use lib.ListN.{length, take, drop, getD, set, length-drop, length-set}
-use lib.Seq.{getD-drop, length-take-le, paste, paste-zero, paste-suc, length-paste, take-suc-set, take-take, take-add, drop-at, drop-set-lt, append-snoc}
+use lib.Seq.{getD-drop, length-take-le, paste, paste-zero, paste-suc, take-suc-set, take-take, take-add, drop-at, drop-set-lt, append-snoc}
 use Rattle.score.specs.declared.TimedEvent.{TimedEvent}
 use Rattle.score.specs.Score.{noEvent}
 use Rattle.score_edits.specs.Edits.{mayPrecede, placed, placeOf, removed}

@@ -1,4 +1,4 @@
-use mathlib.Core.Path.{_≡_, refl, sym, _∙_, ap}
+-- The two tests are the definition's: the comparison as it stands, the velocity's by the callee's promise.
 use Rattle.score_edits.specs.Edits.{soundEvent}
 use borrow.Author.Needs.{needs}
 use Rattle.score_edits.proofs.is_sound_event.Statement.{statement}

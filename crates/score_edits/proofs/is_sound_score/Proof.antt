@@ -1,8 +1,8 @@
--- What has passed, together with what the rest will say, is what the whole score says.
-use mathlib.Core.Path.{_≡_, refl, sym, _∙_, ap}
-use Prim.Native.Nat.{_+_, _-_, _≤_, _<_}
+-- After i events: what has passed, together with what the rest will say, is what the whole score says (`sound-turn`, `sound-done` in Walk.antt).
+use mathlib.Core.Path.{_≡_}
+use Prim.Native.Nat.{_-_, _≤_}
 use native.Mathlib.Omega.{arith}
-use lib.ListN.{length, take, drop, length-set}
+use lib.ListN.{length, take, drop}
 use mathlib.Core.Bool.{_&&_}
 use Rattle.score_edits.specs.Edits.{soundAfter}
 use Rattle.score_edits.proofs.Walk.{sound-turn, sound-done}

@@ -1,4 +1,4 @@
-use mathlib.Core.Path.{_≡_, refl, sym, _∙_, ap}
+-- Each variant gives what the definition says of it: a strike its two comparisons, the others true.
 use lib.Ieee.{ofBits, ofInt, neg}
 use Rattle.score_edits.specs.Edits.{soundVelocity}
 use borrow.Author.Needs.{needs}

@@ -1,4 +1,5 @@
-use mathlib.Core.Path.{_≡_, refl, sym, _∙_, ap}
+-- The comparison is the definition.
+use mathlib.Core.Path.{refl}
 use Rattle.score_edits.specs.Edits.{mayPrecede}
 use Rattle.score_edits.proofs.may_precede.Statement.{statement}
 use Rattle.score_edits.proofs.may_precede.Tie as tie

@@ -1,10 +1,9 @@
--- j events have moved up by one.
-use mathlib.Core.Path.{_≡_, refl, sym, _∙_, ap}
+-- After j turns: j events have moved up by one, behind the new one; at the end the array is the score with the event placed (Moves.antt).
+use mathlib.Core.Path.{_≡_, refl}
 use Prim.Native.Nat.{_+_, _-_, _≤_, _<_}
 use native.Mathlib.Omega.{arith}
-use lib.ListN.{length, take, drop, length-set}
+use lib.ListN.{length, drop, length-set}
 use lib.Seq.{paste}
-use Rattle.score_edits.specs.Edits.{placeOf}
 use Rattle.score_edits.proofs.Moves.{up-none, up-turn, up-done}
 use borrow.Author.Needs.{needs}
 use Rattle.score_edits.proofs.place_event.Statement.{statement}

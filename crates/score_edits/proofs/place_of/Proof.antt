@@ -1,9 +1,9 @@
--- The place found in the rest, and the events passed, are the place.
-use mathlib.Core.Path.{_≡_, refl, sym, _∙_, ap}
-use Prim.Native.Nat.{_+_, _-_, _≤_, _<_}
+-- After i events: the place found in the rest, and the i events passed, are the place (Walk.antt).
+use mathlib.Core.Path.{_≡_, sym, _∙_}
+use Prim.Native.Nat.{_+_, _-_, _≤_}
 use native.Mathlib.Omega.{arith}
 use borrow.Author.Tests.{not-true, not-false}
-use lib.ListN.{length, take, drop, length-set}
+use lib.ListN.{length, take, drop}
 use Rattle.score_edits.specs.Edits.{placeOf}
 use Rattle.score_edits.proofs.Walk.{place-turn, place-here, place-end}
 use borrow.Author.Needs.{needs}

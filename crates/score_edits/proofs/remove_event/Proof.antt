@@ -1,8 +1,8 @@
--- j events have moved down by one.
-use mathlib.Core.Path.{_≡_, refl, sym, _∙_, ap}
+-- After j turns: j events have moved down by one; at the end the array is the score without the event (Moves.antt).
+use mathlib.Core.Path.{_≡_, refl}
 use Prim.Native.Nat.{_+_, _-_, _≤_, _<_}
 use native.Mathlib.Omega.{arith}
-use lib.ListN.{length, take, drop, length-set}
+use lib.ListN.{length, drop, length-set}
 use lib.Seq.{paste}
 use Rattle.score_edits.proofs.Moves.{down-none, down-turn, down-done}
 use borrow.Author.Needs.{needs}
