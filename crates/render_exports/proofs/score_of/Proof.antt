@@ -1,3 +1,4 @@
+-- Safe and ending: each turn leaves fewer of 64 places, so that no more events are kept. Assumes nothing.
 use Prim.Native.Nat.{_+_, _-_, _≤_, _<_}
 use borrow.Author.Needs.{needs}
 use Rattle.render_exports.proofs.score_of.Statement.{statement}
