@@ -108,12 +108,12 @@ module _ (o : Outcome) (w : List ℕ) (r : Report) (er : r ≡ reportOf (o .answ
 
 -- ---- a call
 
-module _ {f w : List ℕ} {whole : Bool} {Same : Type 0} {Meets : Instrument → Session → Outcome → Type 0} {r : Report} where
-  pub crosses-refused : {n : ℕ} → n ≡ handedRefusal (readOf f .refusal) whole → (n ≡ 0 → ⊥) → r ≡ refusedBy n → Same → Crosses f whole w r w Same Meets
+module _ {f w : List ℕ} {whole : Bool} {Stays : Type 0} {Promise : Instrument → Session → Outcome → Type 0} {r : Report} where
+  pub crosses-refused : {n : ℕ} → n ≡ handedRefusal (readOf f .refusal) whole → (n ≡ 0 → ⊥) → r ≡ refusedBy n → Stays → Crosses f whole w r w Stays Promise
   crosses-refused e h er same = record { refuses = λ _. (er ∙ ap refusedBy e, refl, same); calls = λ z. absurd (h (e ∙ z)) }
 
-  pub crosses-called : {n : ℕ} → n ≡ handedRefusal (readOf f .refusal) whole → n ≡ 0 → {w′ : List ℕ} {o : Outcome} → Meets (readOf f .instrument) (sessionOf w) o → Keeps o w r w′
-      → Crosses f whole w r w′ Same Meets
+  pub crosses-called : {n : ℕ} → n ≡ handedRefusal (readOf f .refusal) whole → n ≡ 0 → {w′ : List ℕ} {o : Outcome} → Promise (readOf f .instrument) (sessionOf w) o → Keeps o w r w′
+      → Crosses f whole w r w′ Stays Promise
   crosses-called e h m keeps = record { refuses = λ z. absurd (z (sym e ∙ h)); calls = λ _. record { outcome = _; meets = m; keeps = keeps } }
 
 -- after `begin`
@@ -129,24 +129,24 @@ module _ {f w : List ℕ} {b : Begun} (m : Begins f w b) where
   event-decides : (kind key : ℕ) → b .refusal ≡ 0 → cond (isEvent kind key) 0 7 ≡ handedRefusal (readOf f .refusal) (isSession w && isEvent kind key)
   event-decides kind key h = more-decides (readOf f .refusal) (isSession w) (isEvent kind key) (sym (m .number) ∙ h)
 
-  module _ {Same : Type 0} {Meets : Instrument → Session → Outcome → Type 0} {r : Report} where
-    pub call-refused : (b .refusal ≡ 0 → ⊥) → r ≡ refusedBy (b .refusal) → Same → Crosses f (isSession w) w r w Same Meets
+  module _ {Stays : Type 0} {Promise : Instrument → Session → Outcome → Type 0} {r : Report} where
+    pub call-refused : (b .refusal ≡ 0 → ⊥) → r ≡ refusedBy (b .refusal) → Stays → Crosses f (isSession w) w r w Stays Promise
     call-refused = crosses-refused (m .number)
 
-    pub call-made : b .refusal ≡ 0 → {w′ : List ℕ} {o : Outcome} → Meets (b .instrument) (b .session) o → Keeps o w r w′ → Crosses f (isSession w) w r w′ Same Meets
-    call-made h {w′} {o} p keeps = crosses-called (m .number) h (begun-is h (λ i s. Meets i s o) p) keeps
+    pub call-made : b .refusal ≡ 0 → {w′ : List ℕ} {o : Outcome} → Promise (b .instrument) (b .session) o → Keeps o w r w′ → Crosses f (isSession w) w r w′ Stays Promise
+    call-made h {w′} {o} p keeps = crosses-called (m .number) h (begun-is h (λ i s. Promise i s o) p) keeps
 
     -- insert, whose event is numbers too
     module _ (kind key : ℕ) where
-      pub insert-refused : (b .refusal ≡ 0 → ⊥) → r ≡ refusedBy (b .refusal) → Same → Crosses f (isSession w && isEvent kind key) w r w Same Meets
+      pub insert-refused : (b .refusal ≡ 0 → ⊥) → r ≡ refusedBy (b .refusal) → Stays → Crosses f (isSession w && isEvent kind key) w r w Stays Promise
       insert-refused h = crosses-refused (m .number ∙ refused-already (readOf f .refusal) (isSession w) (isEvent kind key) (λ z. h (m .number ∙ z))) h
 
-      pub insert-none : b .refusal ≡ 0 → isEvent kind key ≡ false → r ≡ refusedBy 7 → Same → Crosses f (isSession w && isEvent kind key) w r w Same Meets
+      pub insert-none : b .refusal ≡ 0 → isEvent kind key ≡ false → r ≡ refusedBy 7 → Stays → Crosses f (isSession w && isEvent kind key) w r w Stays Promise
       insert-none h none = crosses-refused (sym (ap (λ (t : Bool). cond t 0 7) none) ∙ event-decides kind key h) (λ z. omega arith)
 
-      pub insert-made : b .refusal ≡ 0 → isEvent kind key ≡ true → {w′ : List ℕ} {o : Outcome} → Meets (b .instrument) (b .session) o → Keeps o w r w′
-          → Crosses f (isSession w && isEvent kind key) w r w′ Same Meets
-      insert-made h event {w′} {o} p keeps = crosses-called (sym (ap (λ (t : Bool). cond t 0 7) event) ∙ event-decides kind key h) refl (begun-is h (λ i s. Meets i s o) p) keeps
+      pub insert-made : b .refusal ≡ 0 → isEvent kind key ≡ true → {w′ : List ℕ} {o : Outcome} → Promise (b .instrument) (b .session) o → Keeps o w r w′
+          → Crosses f (isSession w && isEvent kind key) w r w′ Stays Promise
+      insert-made h event {w′} {o} p keeps = crosses-called (sym (ap (λ (t : Bool). cond t 0 7) event) ∙ event-decides kind key h) refl (begun-is h (λ i s. Promise i s o) p) keeps
 
   -- energies
   pub energies-refused : {work : List Float} {r : KeyEnergies} → (b .refusal ≡ 0 → ⊥) → r ≡ noEnergies (b .refusal) → EnergiesCross f w work r
@@ -166,12 +166,12 @@ module _ (f w : List ℕ) {g : ReadAnswer} {n : ℕ} (eg : g ≡ readOf f) (en :
   pub open-long : n ≡ 0 → length w ≡ sessionSize
   open-long h = eqb-true (length w) sessionSize (nothing-refused (g .refusal) (eqb (length w) sessionSize) (sym en ∙ h) .1)
 
-  module _ {Same : Type 0} {Meets : Instrument → Session → Outcome → Type 0} {r : Report} where
-    pub open-refused : (n ≡ 0 → ⊥) → r ≡ refusedBy n → Same → Crosses f (eqb (length w) sessionSize) w r w Same Meets
+  module _ {Stays : Type 0} {Promise : Instrument → Session → Outcome → Type 0} {r : Report} where
+    pub open-refused : (n ≡ 0 → ⊥) → r ≡ refusedBy n → Stays → Crosses f (eqb (length w) sessionSize) w r w Stays Promise
     open-refused = crosses-refused refusal-is
 
-    pub open-made : n ≡ 0 → {w′ : List ℕ} {o : Outcome} → Meets (g .instrument) (sessionOf w) o → Keeps o w r w′ → Crosses f (eqb (length w) sessionSize) w r w′ Same Meets
-    open-made h {w′} {o} p keeps = crosses-called refusal-is h (subst (λ (x : ReadAnswer). Meets (x .instrument) (sessionOf w) o) eg p) keeps
+    pub open-made : n ≡ 0 → {w′ : List ℕ} {o : Outcome} → Promise (g .instrument) (sessionOf w) o → Keeps o w r w′ → Crosses f (eqb (length w) sessionSize) w r w′ Stays Promise
+    open-made h {w′} {o} p keeps = crosses-called refusal-is h (subst (λ (x : ReadAnswer). Promise (x .instrument) (sessionOf w) o) eg p) keeps
 
 -- ---- energies in flat arrays
 

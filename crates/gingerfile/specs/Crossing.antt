@@ -69,13 +69,13 @@ pub record Keeps (o : Outcome) (w : List ℕ) (r : Report) (w′ : List ℕ) : T
   pub words : r .refusal ≡ 0 → w′ ≡ wordsOf (o .session)
   pub stays : (r .refusal ≡ 0 → ⊥) → w′ ≡ w
 
-pub record Called (Meets : Outcome → Type 0) (w : List ℕ) (r : Report) (w′ : List ℕ) : Type 0 where
+pub record Called (Promise : Outcome → Type 0) (w : List ℕ) (r : Report) (w′ : List ℕ) : Type 0 where
   pub outcome : Outcome
-  pub meets : Meets outcome
+  pub meets : Promise outcome
   pub keeps : Keeps outcome w r w′
 
 -- f is the file; `whole` tells whether the words are a session's, for insert its numbers an event's too, for open whether there are as many words as a session has
--- Same says that every lent cell but the words stayed, Meets what the session's call promises
-pub record Crosses (f : List ℕ) (whole : Bool) (w : List ℕ) (r : Report) (w′ : List ℕ) (Same : Type 0) (Meets : Instrument → Session → Outcome → Type 0) : Type 0 where
-  pub refuses : (handedRefusal (readOf f .refusal) whole ≡ 0 → ⊥) → (r ≡ refusedBy (handedRefusal (readOf f .refusal) whole)) × (w′ ≡ w) × Same
-  pub calls : handedRefusal (readOf f .refusal) whole ≡ 0 → Called (Meets (readOf f .instrument) (sessionOf w)) w r w′
+-- Stays says that every lent cell but the words stayed, Promise what the session's call promises
+pub record Crosses (f : List ℕ) (whole : Bool) (w : List ℕ) (r : Report) (w′ : List ℕ) (Stays : Type 0) (Promise : Instrument → Session → Outcome → Type 0) : Type 0 where
+  pub refuses : (handedRefusal (readOf f .refusal) whole ≡ 0 → ⊥) → (r ≡ refusedBy (handedRefusal (readOf f .refusal) whole)) × (w′ ≡ w) × Stays
+  pub calls : handedRefusal (readOf f .refusal) whole ≡ 0 → Called (Promise (readOf f .instrument) (sessionOf w)) w r w′

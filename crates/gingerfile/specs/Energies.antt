@@ -25,9 +25,9 @@ noEnergies n = record { refusal = n; count = 0; energies = replicate 16 (noEnerg
 unfoldable pub flatOf : ℕ → ℕ → List KeyEnergy → KeyEnergies
 flatOf number count pairs = record { refusal = number; count = count; energies = map energyOf pairs; keys = map numberOf pairs }
 
-pub record Asked (Meets : EnergiesAnswer → Type 0) (r : KeyEnergies) : Type 0 where
+pub record Asked (Promise : EnergiesAnswer → Type 0) (r : KeyEnergies) : Type 0 where
   pub answer : EnergiesAnswer
-  pub meets : Meets answer
+  pub meets : Promise answer
   pub flat : r ≡ flatOf (answer .refusal) (answer .energies .count) (answer .energies .keys)
 
 pub record EnergiesCross (f w : List ℕ) (work : List Float) (r : KeyEnergies) : Type 0 where
