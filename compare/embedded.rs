@@ -17,7 +17,6 @@ use comparison::design::LoopDesign;
 use comparison::instrument::{Common, Instrument, Key, KEY, STRING};
 use comparison::model::Event;
 use designer::DesignTargets;
-use std::fmt::Write as _;
 use std::process::exit;
 
 const FS: f64 = 44_100.0;
@@ -171,57 +170,32 @@ fn measure(instrument: &Instrument, key: &Key) {
 
 // ---- the module
 
-fn literal(bytes: &[u8]) -> String {
+/// A row of the byte string.
+fn row(bytes: &[u8]) -> String {
     let digits: String = bytes.iter().map(|b| format!("\\x{b:02x}")).collect();
-    format!("b\"{digits}\"")
+    format!("            {digits}")
 }
 
-/// A function that puts a section's bytes, those of a key first and then of each of its strings.
-fn section_function(name: &str, remark: &str, section: &[u8], head: usize) -> String {
+/// A section's rows: its first bytes, and then each string's.
+fn rows(section: &[u8], head: usize) -> Vec<String> {
     let (first, rest) = section.split_at(head);
-    let pieces: Vec<&[u8]> = std::iter::once(first).chain(rest.chunks(STRING)).collect();
-    let mut text = format!("// {remark}\nfn {name}(file: &mut [u8], at: usize) -> usize {{\n");
-    for (i, piece) in pieces.iter().enumerate() {
-        let place = if i == 0 { "at".to_string() } else { format!("p{i}") };
-        let call = format!("put(file, {place}, {})", literal(piece));
-        let _ = if i + 1 < pieces.len() {
-            writeln!(text, "    let p{} = {call};", i + 1)
-        } else {
-            writeln!(text, "    {call}\n}}\n")
-        };
-    }
-    text
+    std::iter::once(first).chain(rest.chunks(STRING)).map(row).collect()
 }
 
 fn module(instrument: &Instrument) -> String {
     let bytes = instrument.bytes();
     let sections = instrument.sections();
     let table = &bytes[..bytes.len() - sections.concat().len()];
-    let mut parts = vec![
-        ("put_table".to_string(), section_function("put_table", "The pairs of offset and length", table, STRING)),
-        ("put_common".to_string(), section_function("put_common", "The common section", &sections[0], 40)),
-    ];
-    for (key, section) in instrument.keys.iter().zip(&sections[1..]) {
-        let name = format!("put_key_{}", key.key);
-        let remark = format!("Key {}, {:.2} Hz: {} strings", key.key, frequency(key.key), key.strings.len());
-        let function = section_function(&name, &remark, section, KEY);
-        parts.push((name, function));
-    }
-    let mut text =
+    let mut lines = rows(table, STRING);
+    lines.extend(rows(&sections[0], 40));
+    lines.extend(sections[1..].iter().flat_map(|section| rows(section, KEY)));
+    format!(
         "// The instrument that `rehearse` has inside, as its file would have it. Written by compare/embedded.\n\
-         use text::put;\n\n"
-            .to_string();
-    text.extend(parts.iter().map(|(_, function)| function.as_str()));
-    let _ = writeln!(text, "// The whole file, and its length.\npub fn put_instrument(file: &mut [u8]) -> usize {{");
-    for (i, (name, _)) in parts.iter().enumerate() {
-        let place = if i == 0 { "0".to_string() } else { format!("p{i}") };
-        let _ = if i + 1 < parts.len() {
-            writeln!(text, "    let p{} = {name}(file, {place});", i + 1)
-        } else {
-            writeln!(text, "    {name}(file, {place})\n}}")
-        };
-    }
-    text
+         use text::put;\n\n\
+         // The whole file, and its length: the pairs of offset and length; the common section; each key, its own numbers first, then each of its strings.\n\
+         pub fn put_instrument(file: &mut [u8]) -> usize {{\n    put(\n        file,\n        0,\n        b\"\\\n{}\",\n    )\n}}\n",
+        lines.join("\\\n")
+    )
 }
 
 fn main() {

@@ -1,7 +1,6 @@
 // The kept cues in rising order.
 use session_cues::Cue;
-use text::put;
-use text::put_number;
+use text::put_counted;
 
 // No position of a cue is as large.
 const NONE: u64 = 0xffff_ffff_ffff_ffff;
@@ -34,8 +33,7 @@ pub fn put_cues(line: &mut [u8], at: usize, cues: [Cue; 4]) -> usize {
         if p == NONE {
             return k;
         }
-        let space = put(line, k, b" ");
-        k = put_number(line, space, p);
+        k = put_counted(line, k, b" ", p);
         from = p + 1;
     }
     k

@@ -132,12 +132,51 @@ pub fn open_script(path: &[u8]) -> i32 {
 }
 
 // A file to write, emptied. Below 0 where there is none.
-pub fn open_output(path: &[u8]) -> i32 {
+fn open_output(path: &[u8]) -> i32 {
     let fd = os::open_overwrite(path);
     if fd < 0 {
         fail(path);
     }
     fd
+}
+
+// Where samples and forces go; the forces below 0 where nobody asked for them.
+pub struct Places {
+    pub wav: i32,
+    pub forces: i32,
+    pub are_open: bool,
+}
+
+// Opens what is written: the samples' file, then the forces' where they are asked for.
+pub fn open_places(wav: &[u8], forces: &[u8], has_forces: bool) -> Places {
+    let samples = open_output(wav);
+    if samples < 0 {
+        return Places {
+            wav: samples,
+            forces: -1,
+            are_open: false,
+        };
+    }
+    if !has_forces {
+        return Places {
+            wav: samples,
+            forces: -1,
+            are_open: true,
+        };
+    }
+    let fd = open_output(forces);
+    Places {
+        wav: samples,
+        forces: fd,
+        are_open: 0 <= fd,
+    }
+}
+
+pub fn close_places(places: Places) {
+    libc::close(places.wav);
+    if 0 <= places.forces {
+        libc::close(places.forces);
+    }
 }
 
 // A WAV's header, which stands before its samples; false where it cannot be written.

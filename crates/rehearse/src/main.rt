@@ -2,12 +2,14 @@
 // library; this holds the memory that it lends, and the files.
 mod files;
 mod output;
+mod progress;
 mod rehearsal;
 
+use files::Places;
 use instrument::Instrument;
 use libc::STDERR_FILENO;
-use lines::Reader;
-use rehearsal::Places;
+use text::lines;
+use text::lines::Reader;
 
 // Plays the whole script and writes its files' last bytes. A failure is told by what failed.
 fn rehearse(
@@ -28,34 +30,22 @@ fn rehearse(
     libc::lseek(places.wav, 58, libc::SEEK_SET);
     let played = rehearsal::play_script(instrument, reader, places, input);
     let ending = played.ending;
-    rehearsal::tell(ending, script, wav, forces);
+    progress::tell(ending, script, wav, forces);
     if !files::write_header(places.wav, rate, played.samples) {
         files::fail(wav);
     }
-    libc::close(places.wav);
-    if 0 <= places.forces {
-        libc::close(places.forces);
-    }
+    files::close_places(places);
 }
 
-fn rehearse_embedded() {
-    let mut file = [0u8; 2048];
-    let n = output::count(embedded::put_instrument(&mut file), &file);
-    let loaded = files::accept(&file[..n]);
-    if !loaded.is_accepted {
-        return;
-    }
-    let instrument = loaded.instrument;
-    let fd = files::open_output(b"rehearsal.wav");
-    if fd < 0 {
+// ---- what the program has inside
+
+fn rehearse_phrase(instrument: Instrument) {
+    let places = files::open_places(b"rehearsal.wav", b"", false);
+    if !places.are_open {
         return;
     }
     let mut input = io::large_buffer();
     let k = embedded::put_script(&mut input);
-    let places = Places {
-        wav: fd,
-        forces: -1,
-    };
     rehearse(
         instrument,
         lines::from_bytes(k),
@@ -67,26 +57,26 @@ fn rehearse_embedded() {
     );
 }
 
-// The files that are to be written, by their names.
+fn rehearse_embedded() {
+    let mut file = [0u8; 2048];
+    let n = output::count(embedded::put_instrument(&mut file), &file);
+    let loaded = files::accept(&file[..n]);
+    if loaded.is_accepted {
+        rehearse_phrase(loaded.instrument);
+    }
+}
+
+// ---- the files that are named
+
+// The script is opened first, then what is written.
 fn rehearse_on(instrument: Instrument, script: &[u8], wav: &[u8], forces: &[u8], has_forces: bool) {
     let from = files::open_script(script);
     if from < 0 {
         return;
     }
-    let to = files::open_output(wav);
-    if to < 0 {
+    let places = files::open_places(wav, forces, has_forces);
+    if !places.are_open {
         return;
-    }
-    let mut places = Places {
-        wav: to,
-        forces: -1,
-    };
-    if has_forces {
-        let fd = files::open_output(forces);
-        if fd < 0 {
-            return;
-        }
-        places.forces = fd;
     }
     let mut input = io::large_buffer();
     rehearse(
@@ -100,34 +90,38 @@ fn rehearse_on(instrument: Instrument, script: &[u8], wav: &[u8], forces: &[u8],
     );
 }
 
-fn rehearse_with(instrument: Instrument, has_forces: bool) {
-    let mut script = io::buffer();
-    let a = os::arg(2, &mut script);
+fn rehearse_with_forces(instrument: Instrument, script: &[u8], wav: &[u8]) {
+    let mut forces = io::buffer();
+    let n = os::arg(4, &mut forces);
     if os::errno() != 0 {
-        files::fail(b"SCRIPT");
+        files::fail(b"FORCES");
         return;
     }
+    rehearse_on(instrument, script, wav, &forces[..n], true);
+}
+
+fn rehearse_into(instrument: Instrument, script: &[u8], has_forces: bool) {
     let mut wav = io::buffer();
-    let b = os::arg(3, &mut wav);
+    let n = os::arg(3, &mut wav);
     if os::errno() != 0 {
         files::fail(b"OUT.wav");
         return;
     }
-    let mut forces = io::buffer();
-    let c = os::arg(4, &mut forces);
     if has_forces {
-        if os::errno() != 0 {
-            files::fail(b"FORCES");
-            return;
-        }
+        rehearse_with_forces(instrument, script, &wav[..n]);
+    } else {
+        rehearse_on(instrument, script, &wav[..n], b"", false);
     }
-    rehearse_on(
-        instrument,
-        &script[..a],
-        &wav[..b],
-        &forces[..c],
-        has_forces,
-    );
+}
+
+fn rehearse_script(instrument: Instrument, has_forces: bool) {
+    let mut script = io::buffer();
+    let n = os::arg(2, &mut script);
+    if os::errno() != 0 {
+        files::fail(b"SCRIPT");
+        return;
+    }
+    rehearse_into(instrument, &script[..n], has_forces);
 }
 
 fn rehearse_files(has_forces: bool) {
@@ -138,11 +132,9 @@ fn rehearse_files(has_forces: bool) {
         return;
     }
     let loaded = files::load_instrument(&path[..n]);
-    if !loaded.is_accepted {
-        return;
+    if loaded.is_accepted {
+        rehearse_script(loaded.instrument, has_forces);
     }
-    let instrument = loaded.instrument;
-    rehearse_with(instrument, has_forces);
 }
 
 fn main() {

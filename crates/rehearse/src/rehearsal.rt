@@ -1,124 +1,20 @@
 // A script's lines, one after the other: each is read, called, answered, and what it played is written.
-use crate::files::fail;
+use crate::files::Places;
 use crate::output;
-use crate::output::Output;
+use crate::progress;
+use crate::progress::Asked;
+use crate::progress::Ending;
+use crate::progress::Progress;
+use crate::progress::goes_on;
 use console::Console;
 use console::Reply;
 use instrument::Instrument;
-use libc::STDERR_FILENO;
-use libc::STDOUT_FILENO;
-use lines::Found;
-use lines::Reader;
-use script::Command;
 use std::num::wrapping_add_u64;
-
-// Whether the rehearsal goes on, and else how it ended: at the script's end, or where a read or a write failed.
-pub enum Ending {
-    GoesOn,
-    Finished,
-    ScriptFailed,
-    AnswersFailed,
-    WavFailed,
-    ForcesFailed,
-}
-
-// Where samples and forces go; the forces below 0 where nobody asked for them.
-pub struct Places {
-    pub wav: i32,
-    pub forces: i32,
-}
-
-// `line` is the number of the script's line that comes next, `due` the time of the next sign of life.
-pub struct Progress {
-    pub reader: Reader,
-    pub answers: Output,
-    pub line: u64,
-    pub samples: u64,
-    pub due: f64,
-    pub ending: Ending,
-}
+use text::lines::Reader;
 
 pub struct Rehearsal {
     pub console: Console,
     pub progress: Progress,
-}
-
-fn ended(p: Progress, ending: Ending) -> Progress {
-    let reader = p.reader;
-    let answers = p.answers;
-    Progress {
-        reader,
-        answers,
-        line: p.line,
-        samples: p.samples,
-        due: p.due,
-        ending,
-    }
-}
-
-// What failed, by its name.
-pub fn tell(ending: Ending, script: &[u8], wav: &[u8], forces: &[u8]) {
-    match ending {
-        Ending::GoesOn => {}
-        Ending::Finished => {}
-        Ending::ScriptFailed => fail(script),
-        Ending::AnswersFailed => fail(b"standard output"),
-        Ending::WavFailed => fail(wav),
-        Ending::ForcesFailed => fail(forces),
-    }
-}
-
-// ---- signs of life
-
-// In microseconds of the program's own work.
-const PATIENCE: f64 = 2000000.0;
-
-fn work_time() -> f64 {
-    std::num::nearest_i64_to_f64(libc::clock())
-}
-
-fn show_life(line: u64, t: u64) {
-    io::write_all(STDERR_FILENO, b"rehearse: line ");
-    io::print_decimal(STDERR_FILENO, line);
-    io::write_all(STDERR_FILENO, b", position ");
-    io::print_decimal(STDERR_FILENO, t);
-    io::write_all(STDERR_FILENO, b"\n");
-}
-
-// Where it is due: a line on standard error, and the answers so far.
-fn live(p: Progress, t: u64, answers: &[u8]) -> Progress {
-    let time = work_time();
-    if time < p.due {
-        return p;
-    }
-    show_life(p.line, t);
-    let flushed = output::flush(answers, p.answers);
-    let mut next = p;
-    next.answers = flushed;
-    next.due = time + PATIENCE;
-    next
-}
-
-// ---- one line
-
-fn put_line(answers: &mut [u8], out: Output, line: &[u8]) -> Output {
-    if line.len() == 0 {
-        return out;
-    }
-    let with_line = output::put(answers, out, line);
-    output::put(answers, with_line, b"\n")
-}
-
-// A line of answer, behind which the script's next line comes.
-fn say(p: Progress, line: &[u8], answers: &mut [u8]) -> Progress {
-    let said = put_line(answers, p.answers, line);
-    let mut next = p;
-    next.answers = said;
-    next.line = wrapping_add_u64(p.line, 1);
-    if said.is_failed {
-        return ended(next, Ending::AnswersFailed);
-    }
-    next
 }
 
 fn say_reply(
@@ -134,7 +30,7 @@ fn say_reply(
         console::put_reply(&mut line, p.line, reply, instrument, console, work),
         &line,
     );
-    say(p, &line[..n], answers)
+    progress::say(p, &line[..n], answers)
 }
 
 // The samples and forces of a play go into their files.
@@ -172,7 +68,7 @@ fn store(
         return p;
     }
     let written = write_played(places, samples, forces, out, trace, bytes);
-    let mut next = ended(p, written);
+    let mut next = progress::ended(p, written);
     next.samples = wrapping_add_u64(p.samples, samples as u64);
     next
 }
@@ -180,9 +76,9 @@ fn store(
 // A line's call, its answer, and what it played.
 fn call(
     instrument: Instrument,
-    r: Rehearsal,
+    before: Console,
+    asked: Asked,
     places: Places,
-    command: Command,
     work: &mut [f64; 662000],
     scratch: &mut [f64; 256],
     out: &mut [f64; 65536],
@@ -190,59 +86,13 @@ fn call(
     answers: &mut [u8; 65536],
     bytes: &mut [u8; 65536],
 ) -> Rehearsal {
-    let before = r.console;
+    let command = asked.command;
     let turn = console::answer(instrument, before, command, work, scratch, out, trace);
     let console = turn.console;
     let reply = turn.reply;
-    let said = say_reply(r.progress, reply, instrument, console, work, answers);
+    let said = say_reply(asked.progress, reply, instrument, console, work, answers);
     let progress = store(said, places, turn.samples, turn.forces, out, trace, bytes);
     Rehearsal { console, progress }
-}
-
-// A read may wait, so all answers are out before it.
-fn flush_waiting(p: Progress, input: &[u8], answers: &[u8]) -> Progress {
-    if !lines::is_waiting(input, p.reader) {
-        return p;
-    }
-    let flushed = output::flush(answers, p.answers);
-    let mut next = p;
-    next.answers = flushed;
-    next
-}
-
-// The script's next line, if the rehearsal goes on.
-struct Asked {
-    progress: Progress,
-    command: Command,
-}
-
-fn ask(p: Progress, input: &mut [u8]) -> Asked {
-    let line = lines::next(input, p.reader);
-    let command = lines::command_of(input, line);
-    let reader = line.reader;
-    let mut next = p;
-    next.reader = reader;
-    let found = line.found;
-    let progress = match found {
-        Found::End => ended(next, Ending::Finished),
-        Found::Failed => ended(next, Ending::ScriptFailed),
-        _ => next,
-    };
-    Asked { progress, command }
-}
-
-fn goes_on(ending: Ending) -> bool {
-    match ending {
-        Ending::GoesOn => true,
-        _ => false,
-    }
-}
-
-// What comes before a line is read, and the line.
-fn read_line(p: Progress, t: u64, input: &mut [u8], answers: &[u8]) -> Asked {
-    let lived = live(p, t, answers);
-    let flushed = flush_waiting(lived, input, answers);
-    ask(flushed, input)
 }
 
 fn rehearse_line(
@@ -259,19 +109,17 @@ fn rehearse_line(
 ) -> Rehearsal {
     let console = r.console;
     let session = console.session;
-    let asked = read_line(r.progress, session.t, input, answers);
+    let asked = progress::read_line(r.progress, session.t, input, answers);
     let progress = asked.progress;
-    let command = asked.command;
     let ending = progress.ending;
-    let before = Rehearsal { console, progress };
     if !goes_on(ending) {
-        return before;
+        return Rehearsal { console, progress };
     }
     call(
         instrument,
-        before,
+        console,
+        asked,
         places,
-        command,
         work,
         scratch,
         out,
@@ -328,18 +176,18 @@ fn open_console(
     let turn = console::open(instrument, work, trace);
     let console = turn.console;
     let reply = turn.reply;
-    let start = Progress {
-        reader,
-        answers: output::empty(STDOUT_FILENO),
-        line: 0,
-        samples: 0,
-        due: work_time() + PATIENCE,
-        ending: Ending::GoesOn,
-    };
-    let said = say_reply(start, reply, instrument, console, work, answers);
-    let progress = match reply {
-        Reply::Opened => said,
-        _ => ended(said, Ending::Finished),
+    let said = say_reply(
+        progress::begun(reader),
+        reply,
+        instrument,
+        console,
+        work,
+        answers,
+    );
+    let progress = if console::is_opened(reply) {
+        said
+    } else {
+        progress::ended(said, Ending::Finished)
     };
     Rehearsal { console, progress }
 }

@@ -7,11 +7,12 @@ use console::Console;
 use instrument::Instrument;
 use libc::STDIN_FILENO;
 use libc::STDOUT_FILENO;
-use lines::Found;
-use lines::Reader;
+use little_endian::part;
 use reading::Record;
 use std::num::wrapping_add_u64;
-use std::num::wrapping_sub_usize;
+use text::lines;
+use text::lines::Found;
+use text::lines::Reader;
 
 struct Tally {
     lists: u64,
@@ -56,6 +57,18 @@ fn open(file: &[u8], work: &mut [f64], trace: &[f64], text: &mut [u8]) -> Replay
     }
 }
 
+// The same of a file's digits.
+fn open_digits(
+    digits: &[u8],
+    file: &mut [u8],
+    work: &mut [f64],
+    trace: &[f64],
+    text: &mut [u8],
+) -> Replay {
+    let n = reading::read_bytes(digits, file);
+    open(part(file, 0, n), work, trace, text)
+}
+
 fn call(
     r: Replay,
     line: &[u8],
@@ -66,16 +79,9 @@ fn call(
     text: &mut [u8],
 ) -> Replay {
     let instrument = r.instrument;
+    let command = text::script::command_of(line);
     let before = r.console;
-    let turn = console::answer(
-        instrument,
-        before,
-        script::command_of(line),
-        work,
-        scratch,
-        out,
-        trace,
-    );
+    let turn = console::answer(instrument, before, command, work, scratch, out, trace);
     let console = turn.console;
     let reply = turn.reply;
     let length = console::put_reply(text, r.line, reply, instrument, console, work);
@@ -89,6 +95,25 @@ fn call(
     }
 }
 
+// What a stored line makes of the replay: a list is opened, a line is called.
+fn replayed(
+    r: Replay,
+    line: &[u8],
+    work: &mut [f64; 662000],
+    scratch: &mut [f64; 256],
+    out: &mut [f64; 65536],
+    trace: &mut [f64; 65536],
+    text: &mut [u8; 1024],
+    file: &mut [u8; 4096],
+) -> Replay {
+    let record = reading::record_of(line);
+    match record {
+        Record::Instrument => open_digits(reading::stored_in(line), file, work, trace, text),
+        Record::Line => call(r, reading::stored_in(line), work, scratch, out, trace, text),
+        _ => r,
+    }
+}
+
 // ---- the verdicts
 
 fn judged(tally: Tally, same: bool) -> Tally {
@@ -99,29 +124,18 @@ fn judged(tally: Tally, same: bool) -> Tally {
     next
 }
 
-fn judge_answer(tally: Tally, length: usize, text: &[u8], stored: &[u8]) -> Tally {
-    let mut next = judged(
-        tally,
-        reading::is_answer(little_endian::part(text, 0, length), stored),
-    );
+fn judge_answer(tally: Tally, text: &[u8], stored: &[u8]) -> Tally {
+    let mut next = judged(tally, reading::is_answer(text, stored));
     next.answers = wrapping_add_u64(tally.answers, 1);
     next
 }
 
 // The sums of the last answer's samples and forces.
-fn judge_sums(
-    tally: Tally,
-    samples: usize,
-    forces: usize,
-    out: &[f64],
-    trace: &[f64],
-    stored: &[u8],
-) -> Tally {
-    let a = sums::sum_of(out, samples);
-    let b = sums::sum_of(trace, forces);
-    let mut next = judged(tally, reading::are_sums(stored, a, b));
-    next.samples = wrapping_add_u64(tally.samples, samples as u64);
-    next.forces = wrapping_add_u64(tally.forces, forces as u64);
+fn judge_sums(tally: Tally, out: &[f64], trace: &[f64], stored: &[u8]) -> Tally {
+    let same = reading::are_sums(stored, sums::sum_of(out), sums::sum_of(trace));
+    let mut next = judged(tally, same);
+    next.samples = wrapping_add_u64(tally.samples, out.len() as u64);
+    next.forces = wrapping_add_u64(tally.forces, trace.len() as u64);
     next
 }
 
@@ -137,6 +151,18 @@ fn unreadable(tally: Tally) -> Tally {
     next
 }
 
+// What a stored line makes of the tally, with the last answer's text, samples and forces.
+fn judge(tally: Tally, line: &[u8], text: &[u8], out: &[f64], trace: &[f64]) -> Tally {
+    let record = reading::record_of(line);
+    match record {
+        Record::Instrument => new_list(tally),
+        Record::Line => tally,
+        Record::Answer => judge_answer(tally, text, reading::stored_in(line)),
+        Record::Sums => judge_sums(tally, out, trace, reading::stored_in(line)),
+        Record::Other => unreadable(tally),
+    }
+}
+
 // ---- the stored lines
 
 struct State {
@@ -144,59 +170,25 @@ struct State {
     tally: Tally,
 }
 
-fn open_list(
-    s: State,
-    stored: &[u8],
-    file: &mut [u8],
-    work: &mut [f64],
-    trace: &[f64],
-    text: &mut [u8],
-) -> State {
-    let n = reading::read_bytes(stored, file);
-    let replay = open(little_endian::part(file, 0, n), work, trace, text);
-    let tally = new_list(s.tally);
-    State { replay, tally }
-}
-
-fn call_line(
-    s: State,
-    stored: &[u8],
-    work: &mut [f64],
-    scratch: &mut [f64],
-    out: &mut [f64],
-    trace: &mut [f64],
-    text: &mut [u8],
-) -> State {
-    let replay = call(s.replay, stored, work, scratch, out, trace, text);
-    let tally = s.tally;
-    State { replay, tally }
-}
-
-fn with_tally(s: State, tally: Tally) -> State {
-    let replay = s.replay;
-    State { replay, tally }
-}
-
-fn judge(
-    s: State,
-    record: Record,
-    stored: &[u8],
+fn judge_after(
+    tally: Tally,
+    r: Replay,
+    line: &[u8],
     text: &[u8],
     out: &[f64],
     trace: &[f64],
-) -> State {
-    let replay = s.replay;
-    match record {
-        Record::Answer => with_tally(s, judge_answer(s.tally, replay.length, text, stored)),
-        Record::Sums => with_tally(
-            s,
-            judge_sums(s.tally, replay.samples, replay.forces, out, trace, stored),
-        ),
-        _ => with_tally(s, unreadable(s.tally)),
-    }
+) -> Tally {
+    let samples = console::fitting(r.samples, out);
+    let forces = console::fitting(r.forces, trace);
+    judge(
+        tally,
+        line,
+        part(text, 0, r.length),
+        &out[..samples],
+        &trace[..forces],
+    )
 }
 
-// One stored line.
 fn replay_line(
     s: State,
     line: &[u8],
@@ -207,12 +199,17 @@ fn replay_line(
     text: &mut [u8; 1024],
     file: &mut [u8; 4096],
 ) -> State {
-    let record = reading::record_of(line);
-    let stored = little_endian::part(line, reading::name_length(line), line.len());
-    match record {
-        Record::Instrument => open_list(s, stored, file, work, trace, text),
-        Record::Line => call_line(s, stored, work, scratch, out, trace, text),
-        _ => judge(s, record, stored, text, out, trace),
+    let before = s.replay;
+    let replay = replayed(before, line, work, scratch, out, trace, text, file);
+    let tally = judge_after(s.tally, replay, line, text, out, trace);
+    State { replay, tally }
+}
+
+fn is_over(found: Found) -> bool {
+    match found {
+        Found::End => true,
+        Found::Failed => true,
+        _ => false,
     }
 }
 
@@ -234,30 +231,22 @@ fn replay_next(
     text: &mut [u8; 1024],
     file: &mut [u8; 4096],
 ) -> Read {
-    let line = lines::next(input, reader);
-    let after = line.reader;
-    let found = line.found;
-    match found {
-        Found::End => Read {
+    let next = lines::next(input, reader);
+    let after = next.reader;
+    let found = next.found;
+    if is_over(found) {
+        return Read {
             state: s,
             reader: after,
             is_over: true,
-        },
-        Found::Failed => Read {
-            state: s,
-            reader: after,
-            is_over: true,
-        },
-        _ => {
-            let length = wrapping_sub_usize(line.end, line.start);
-            let stored = little_endian::part(input, line.start, length);
-            let state = replay_line(s, stored, work, scratch, out, trace, text, file);
-            Read {
-                state,
-                reader: after,
-                is_over: false,
-            }
-        }
+        };
+    }
+    let line = lines::text_of(input, next);
+    let state = replay_line(s, line, work, scratch, out, trace, text, file);
+    Read {
+        state,
+        reader: after,
+        is_over: false,
     }
 }
 
@@ -291,10 +280,14 @@ fn say(n: u64, words: &[u8]) {
     io::write_all(STDOUT_FILENO, words);
 }
 
-fn report(tally: Tally) {
+fn report_counts(tally: Tally) {
     say(tally.lists, b" lists, ");
     say(tally.answers, b" answers, ");
     say(tally.samples, b" samples, ");
+}
+
+fn report(tally: Tally) {
+    report_counts(tally);
     say(tally.forces, b" forces: ");
     say(tally.differ, b" differ, ");
     say(tally.unreadable, b" lines unreadable\n");

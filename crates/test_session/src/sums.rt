@@ -17,11 +17,9 @@ fn with_float(sum: u64, x: f64) -> u64 {
     )
 }
 
-// Of the first n floats.
-pub fn sum_of(floats: &[f64], n: usize) -> u64 {
-    let end = console::fitting(n, floats);
+pub fn sum_of(floats: &[f64]) -> u64 {
     let mut sum = 0u64;
-    for i in 0..end {
+    for i in 0..floats.len() {
         sum = with_float(sum, floats[i]);
     }
     sum

@@ -1,4 +1,4 @@
--- Safe and ending: at most four turns. Assumes nothing.
+-- Safe and ending: at most four turns; the line keeps its length.
 use mathlib.Core.Path.{_≡_}
 use Prim.Native.Nat.{_-_}
 use lib.ListN.{length}
@@ -7,10 +7,10 @@ use Rattle.console.proofs.cue_list.put_cues.Statement.{statement}
 use Rattle.console.proofs.cue_list.put_cues.Tie as tie
 
 abbrev Inv-loop : tie.InvT-loop
-Inv-loop line₀ at cues k₀ from₀ i₀ t9 line k from i = length line ≡ length line₀
+Inv-loop line₀ at cues k₀ from₀ i₀ t8 line k from i = length line ≡ length line₀
 
 abbrev μ-loop : tie.MeasureT-loop
-μ-loop line₀ at cues k₀ from₀ i₀ t9 line k from i = 4 - i
+μ-loop line₀ at cues k₀ from₀ i₀ t8 line k from i = 4 - i
 
 loop-holds : tie.Need-loop-holds Inv-loop μ-loop
 loop-holds c = search needs
@@ -24,14 +24,11 @@ same-length c = search needs
 returns : tie.Need-returns Inv-loop μ-loop
 returns c = search needs
 
-slice-aggregate-put : tie.Need-slice-aggregate-put Inv-loop μ-loop
-slice-aggregate-put c = search needs
+slice-aggregate-put-counted : tie.Need-slice-aggregate-put-counted Inv-loop μ-loop
+slice-aggregate-put-counted c = search needs
 
-put-requires : tie.Need-put-requires Inv-loop μ-loop
-put-requires c κs = search needs
-
-put-number-requires : tie.Need-put-number-requires Inv-loop μ-loop
-put-number-requires c κs = search needs
+put-counted-requires : tie.Need-put-counted-requires Inv-loop μ-loop
+put-counted-requires c κs = search needs
 
 add-from : tie.Need-add-from Inv-loop μ-loop
 add-from c = search needs
@@ -61,9 +58,8 @@ put-cues-spec =
     next-cue-requires
     same-length
     returns
-    slice-aggregate-put
-    put-requires
-    put-number-requires
+    slice-aggregate-put-counted
+    put-counted-requires
     add-from
     add-i
     loop-less

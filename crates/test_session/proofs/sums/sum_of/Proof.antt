@@ -1,4 +1,5 @@
 -- Safe and ending: the floats are walked through once. Assumes nothing.
+use mathlib.Core.Path.{_≡_}
 use Prim.Native.Nat.{_≤_, _-_}
 use lib.ListN.{length}
 use borrow.Author.Needs.{needs}
@@ -6,13 +7,10 @@ use Rattle.test_session.proofs.sums.sum_of.Statement.{statement}
 use Rattle.test_session.proofs.sums.sum_of.Tie as tie
 
 abbrev Inv-loop : tie.InvT-loop
-Inv-loop floats n end sum₀ i₀ sum i = (i ≤ end) × (end ≤ length floats)
+Inv-loop floats sum₀ i₀ i-end sum i = (i ≤ i-end) × (i-end ≡ length floats)
 
 abbrev μ-loop : tie.MeasureT-loop
-μ-loop floats n end sum₀ i₀ sum i = end - i
-
-fitting-requires : tie.Need-fitting-requires Inv-loop μ-loop
-fitting-requires c κs = search needs
+μ-loop floats sum₀ i₀ i-end sum i = i-end - i
 
 loop-holds : tie.Need-loop-holds Inv-loop μ-loop
 loop-holds c = search needs
@@ -44,7 +42,6 @@ sum-of-spec =
     (tie.spec
     Inv-loop
     μ-loop
-    fitting-requires
     loop-holds
     mul-with-float
     shared-slice-read-with-float

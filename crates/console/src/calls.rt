@@ -1,0 +1,166 @@
+// A script's calls of the session, each with as much memory as is lent.
+use crate::Console;
+use crate::Reply;
+use crate::Turn;
+use crate::called;
+use crate::fitting;
+use crate::replied;
+use instrument::Instrument;
+use score::Event;
+use score::TimedEvent;
+use session::Answer;
+use text::script::Command;
+use text::script::Fault;
+use text::script::Kind;
+
+// A play of m samples gives them, and its forces.
+fn played(turn: Turn, answer: Answer, m: usize) -> Turn {
+    let mut next = turn;
+    match answer {
+        Answer::Played(k) => {
+            next.samples = m;
+            next.forces = k;
+            next
+        }
+        _ => next,
+    }
+}
+
+// A play into an output and a trace that are cut to their lengths.
+fn play_into(
+    instrument: Instrument,
+    console: Console,
+    work: &mut [f64],
+    scratch: &mut [f64],
+    out: &mut [f64],
+    trace: &mut [f64],
+) -> Turn {
+    let lent = console.lent;
+    let cells = fitting(lent.work, work);
+    let s = fitting(lent.scratch, scratch);
+    let outcome = session::play(
+        instrument,
+        console.session,
+        &mut work[..cells],
+        &mut scratch[..s],
+        out,
+        trace,
+    );
+    let answer = outcome.answer;
+    played(called(lent, outcome), answer, out.len())
+}
+
+fn play(
+    instrument: Instrument,
+    console: Console,
+    m: u64,
+    work: &mut [f64],
+    scratch: &mut [f64],
+    out: &mut [f64],
+    trace: &mut [f64],
+) -> Turn {
+    if (out.len() as u64) < m {
+        return replied(console, Reply::Bad(Fault::TooLarge));
+    }
+    let lent = console.lent;
+    let n = fitting(m as usize, out);
+    let k = fitting(lent.trace, trace);
+    play_into(
+        instrument,
+        console,
+        work,
+        scratch,
+        &mut out[..n],
+        &mut trace[..k],
+    )
+}
+
+fn cue(instrument: Instrument, console: Console, work: &mut [f64]) -> Turn {
+    let lent = console.lent;
+    let cells = fitting(lent.work, work);
+    called(
+        lent,
+        session::cue(instrument, console.session, &mut work[..cells]),
+    )
+}
+
+fn go(
+    instrument: Instrument,
+    console: Console,
+    p: u64,
+    work: &mut [f64],
+    scratch: &mut [f64],
+) -> Turn {
+    let lent = console.lent;
+    let cells = fitting(lent.work, work);
+    let s = fitting(lent.scratch, scratch);
+    let outcome = session::go(
+        instrument,
+        console.session,
+        &mut work[..cells],
+        &mut scratch[..s],
+        p,
+    );
+    called(lent, outcome)
+}
+
+fn event_of(command: Command) -> Event {
+    let key = command.key;
+    let kind = command.kind;
+    match kind {
+        Kind::NoteOn => Event::NoteOn {
+            key,
+            velocity: command.velocity,
+        },
+        Kind::NoteOff => Event::NoteOff { key },
+        Kind::HandDamp => Event::HandDamp { key },
+        _ => Event::Pedal(command.down),
+    }
+}
+
+fn insert(instrument: Instrument, console: Console, command: Command, work: &mut [f64]) -> Turn {
+    let lent = console.lent;
+    let cells = fitting(lent.work, work);
+    let timed = TimedEvent {
+        position: command.number,
+        event: event_of(command),
+    };
+    called(
+        lent,
+        session::insert(instrument, console.session, &mut work[..cells], timed),
+    )
+}
+
+fn remove(instrument: Instrument, console: Console, index: u64, work: &mut [f64]) -> Turn {
+    let lent = console.lent;
+    let cells = fitting(lent.work, work);
+    called(
+        lent,
+        session::remove(
+            instrument,
+            console.session,
+            &mut work[..cells],
+            index as usize,
+        ),
+    )
+}
+
+pub fn call(
+    instrument: Instrument,
+    console: Console,
+    command: Command,
+    work: &mut [f64],
+    scratch: &mut [f64],
+    out: &mut [f64],
+    trace: &mut [f64],
+) -> Turn {
+    let kind = command.kind;
+    let number = command.number;
+    match kind {
+        Kind::Play => play(instrument, console, number, work, scratch, out, trace),
+        Kind::Cue => cue(instrument, console, work),
+        Kind::Go => go(instrument, console, number, work, scratch),
+        Kind::Remove => remove(instrument, console, number, work),
+        _ => insert(instrument, console, command, work),
+    }
+}

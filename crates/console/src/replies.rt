@@ -1,0 +1,104 @@
+// The line of text that answers a line of the script.
+use crate::Console;
+use crate::Reply;
+use crate::cue_list::put_cues;
+use crate::energy_list;
+use crate::fitting;
+use crate::words;
+use instrument::Instrument;
+use session::Answer;
+use session_record::Session;
+use text::put;
+use text::put_bits;
+use text::put_counted;
+use text::script::Fault;
+
+pub fn put_refusal(line: &mut [u8], number: u64) -> usize {
+    let at = put_counted(line, 0, b"refused ", number);
+    words::put_refusal(line, at, number)
+}
+
+// The script's line number behind `bad line`.
+fn put_fault(line: &mut [u8], number: u64, fault: Fault) -> usize {
+    let at = put_counted(line, 0, b"bad line ", number);
+    words::put_fault(line, at, fault)
+}
+
+fn put_ok(line: &mut [u8], n: u64) -> usize {
+    put_counted(line, 0, b"ok ", n)
+}
+
+fn put_pair(line: &mut [u8], n: u64, m: u64) -> usize {
+    let at = put_ok(line, n);
+    put_counted(line, at, b" ", m)
+}
+
+fn put_opened(line: &mut [u8], instrument: Instrument) -> usize {
+    put_pair(
+        line,
+        instrument.string_count as u64,
+        instrument::part_cells(instrument) as u64,
+    )
+}
+
+fn put_answer(line: &mut [u8], answer: Answer, instrument: Instrument) -> usize {
+    match answer {
+        Answer::Refused(number) => put_refusal(line, number),
+        Answer::Opened => put_opened(line, instrument),
+        Answer::Played(k) => put_ok(line, k as u64),
+        Answer::Cued => put(line, 0, b"ok"),
+        Answer::Went(n) => put_ok(line, n),
+        Answer::Edited { t, dropped } => put_pair(line, t, dropped),
+    }
+}
+
+fn put_peak(line: &mut [u8], at: usize, peak: f64) -> usize {
+    let k = put(line, at, b" peak ");
+    put_bits(line, k, peak)
+}
+
+fn put_score(line: &mut [u8], at: usize, session: Session) -> usize {
+    let events = put_counted(line, at, b" events ", session.count as u64);
+    let k = put(line, events, b" cues");
+    let cues = session.cues;
+    put_cues(line, k, cues)
+}
+
+fn put_state(line: &mut [u8], session: Session) -> usize {
+    let piano = session.piano;
+    let motion = piano.motion;
+    let t = put_counted(line, 0, b"ok t ", session.t);
+    let contact = put_counted(line, t, b" contact ", motion.contact_samples);
+    let peak = put_peak(line, contact, motion.peak_force);
+    put_score(line, peak, session)
+}
+
+fn put_energies(line: &mut [u8], instrument: Instrument, console: Console, work: &[f64]) -> usize {
+    let lent = console.lent;
+    let cells = fitting(lent.work, work);
+    let answer = energies::key_energies(instrument, console.session, &work[..cells]);
+    if answer.refusal != 0 {
+        return put_refusal(line, answer.refusal);
+    }
+    let at = put(line, 0, b"ok");
+    energy_list::put_energies(line, at, answer.energies)
+}
+
+// The answer to the script's line `number`, into `line`, and its length; none to a line that is skipped.
+pub fn put_reply(
+    line: &mut [u8],
+    number: u64,
+    reply: Reply,
+    instrument: Instrument,
+    console: Console,
+    work: &[f64],
+) -> usize {
+    match reply {
+        Reply::Skipped => 0,
+        Reply::Bad(fault) => put_fault(line, number, fault),
+        Reply::Called(answer) => put_answer(line, answer, instrument),
+        Reply::Done => put(line, 0, b"ok"),
+        Reply::Energies => put_energies(line, instrument, console, work),
+        Reply::State => put_state(line, console.session),
+    }
+}

@@ -1,0 +1,219 @@
+// A script's lines: one call a line, in words and decimal numbers.
+use crate::lines::Found;
+use crate::lines::Line;
+use crate::number::Number;
+use crate::number::Velocity;
+use crate::number::number_of;
+use crate::number::velocity_of;
+use crate::word::place_of;
+use crate::word::word_at;
+use crate::word::word_count;
+
+// What a line asks for, with its numbers beside it where it has any. A bad line says what it lacks; the last two
+// faults are for those to give that know how long a line or a buffer may be.
+pub enum Kind {
+    Blank,
+    Play,
+    Cue,
+    Go,
+    NoteOn,
+    NoteOff,
+    Pedal,
+    HandDamp,
+    Remove,
+    Energies,
+    State,
+    LendScratch,
+    LendTrace,
+    LendWork,
+    Bad(Fault),
+}
+
+pub enum Fault {
+    UnknownCommand,
+    UnknownEvent,
+    UnknownBuffer,
+    WrongWords,
+    NoNumber,
+    NoKey,
+    NoVelocity,
+    NoDirection,
+    TooLarge,
+    LineTooLong,
+}
+
+// `number` is a count, a position or an index; an event's key, velocity and direction follow it.
+pub struct Command {
+    pub kind: Kind,
+    pub number: u64,
+    pub key: u8,
+    pub velocity: f64,
+    pub down: bool,
+}
+
+fn made(kind: Kind, number: u64) -> Command {
+    Command {
+        kind,
+        number,
+        key: 0,
+        velocity: 0.0,
+        down: false,
+    }
+}
+
+fn bad(fault: Fault) -> Command {
+    made(Kind::Bad(fault), 0)
+}
+
+// A command of one word.
+fn alone(line: &[u8], kind: Kind) -> Command {
+    if word_count(line) == 1 {
+        made(kind, 0)
+    } else {
+        bad(Fault::WrongWords)
+    }
+}
+
+// A command whose last word, word i, is a number.
+fn with_number(line: &[u8], i: usize, kind: Kind) -> Command {
+    if word_count(line) != std::num::wrapping_add_usize(i, 1) {
+        return bad(Fault::WrongWords);
+    }
+    let n = number_of(word_at(line, i));
+    match n {
+        Number::Value(m) => made(kind, m),
+        _ => bad(Fault::NoNumber),
+    }
+}
+
+// `lend BUFFER N`
+fn lend(line: &[u8]) -> Command {
+    let buffer = place_of(word_at(line, 1), b"scratch trace work");
+    match buffer {
+        0 => with_number(line, 2, Kind::LendScratch),
+        1 => with_number(line, 2, Kind::LendTrace),
+        2 => with_number(line, 2, Kind::LendWork),
+        _ => bad(Fault::UnknownBuffer),
+    }
+}
+
+// A strike's velocity is word 4.
+fn note_on(line: &[u8], position: u64, key: u8) -> Command {
+    let v = velocity_of(word_at(line, 4));
+    match v {
+        Velocity::Value(velocity) => Command {
+            kind: Kind::NoteOn,
+            number: position,
+            key,
+            velocity,
+            down: false,
+        },
+        Velocity::None => bad(Fault::NoVelocity),
+    }
+}
+
+fn of_number(line: &[u8], position: u64, kind: Kind, k: u64, strike: bool) -> Command {
+    if 255 < k {
+        return bad(Fault::NoKey);
+    }
+    let key = k as u8;
+    if strike {
+        return note_on(line, position, key);
+    }
+    Command {
+        kind,
+        number: position,
+        key,
+        velocity: 0.0,
+        down: false,
+    }
+}
+
+// An event of a key, which is word 3; a strike has its velocity behind it.
+fn of_key(line: &[u8], position: u64, kind: Kind, strike: bool) -> Command {
+    let count = if strike { 5 } else { 4 };
+    if word_count(line) != count {
+        return bad(Fault::WrongWords);
+    }
+    let n = number_of(word_at(line, 3));
+    match n {
+        Number::Value(k) => of_number(line, position, kind, k, strike),
+        _ => bad(Fault::NoKey),
+    }
+}
+
+fn pedal(line: &[u8], position: u64) -> Command {
+    if word_count(line) != 4 {
+        return bad(Fault::WrongWords);
+    }
+    let direction = place_of(word_at(line, 3), b"up down");
+    if 1 < direction {
+        return bad(Fault::NoDirection);
+    }
+    Command {
+        kind: Kind::Pedal,
+        number: position,
+        key: 0,
+        velocity: 0.0,
+        down: direction == 1,
+    }
+}
+
+fn event_at(line: &[u8], position: u64) -> Command {
+    let event = place_of(word_at(line, 2), b"on off hand pedal");
+    match event {
+        0 => of_key(line, position, Kind::NoteOn, true),
+        1 => of_key(line, position, Kind::NoteOff, false),
+        2 => of_key(line, position, Kind::HandDamp, false),
+        3 => pedal(line, position),
+        _ => bad(Fault::UnknownEvent),
+    }
+}
+
+// `insert Q EVENT ..`
+fn insert(line: &[u8]) -> Command {
+    let n = number_of(word_at(line, 1));
+    match n {
+        Number::Value(position) => event_at(line, position),
+        _ => bad(Fault::NoNumber),
+    }
+}
+
+fn named(line: &[u8]) -> Command {
+    let name = place_of(
+        word_at(line, 0),
+        b"play cue go insert remove energies state lend",
+    );
+    match name {
+        0 => with_number(line, 1, Kind::Play),
+        1 => alone(line, Kind::Cue),
+        2 => with_number(line, 1, Kind::Go),
+        3 => insert(line),
+        4 => with_number(line, 1, Kind::Remove),
+        5 => alone(line, Kind::Energies),
+        6 => alone(line, Kind::State),
+        7 => lend(line),
+        _ => bad(Fault::UnknownCommand),
+    }
+}
+
+// One line, without its line feed.
+pub fn command_of(line: &[u8]) -> Command {
+    if little_endian::byte_at(line, 0) == b'#' {
+        return made(Kind::Blank, 0);
+    }
+    if word_count(line) == 0 {
+        return made(Kind::Blank, 0);
+    }
+    named(line)
+}
+
+// The same of a line in its buffer.
+pub fn command_in(buffer: &[u8], line: Line) -> Command {
+    let found = line.found;
+    match found {
+        Found::Line => command_of(crate::lines::text_of(buffer, line)),
+        Found::TooLong => bad(Fault::LineTooLong),
+        _ => made(Kind::Blank, 0),
+    }
+}
