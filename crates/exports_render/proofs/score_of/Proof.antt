@@ -1,8 +1,8 @@
 -- Safe and ending: each turn leaves fewer of 64 places, so that no more events are kept. Assumes nothing.
 use Prim.Native.Nat.{_+_, _-_, _≤_, _<_}
 use borrow.Author.Needs.{needs}
-use Rattle.render_exports.proofs.score_of.Statement.{statement}
-use Rattle.render_exports.proofs.score_of.Tie as tie
+use Rattle.exports_render.proofs.score_of.Statement.{statement}
+use Rattle.exports_render.proofs.score_of.Tie as tie
 
 abbrev Inv-loop : tie.InvT-loop
 Inv-loop positions kinds keys velocities events₀ count₀ events count = count ≤ 64

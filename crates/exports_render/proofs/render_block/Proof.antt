@@ -1,4 +1,4 @@
--- `render_exports::render_block` is safe: its tests give what the renderer requires. Assumes nothing.
+-- `exports_render::render_block` is safe: its tests give what the renderer requires. Assumes nothing.
 use mathlib.Core.Path.{_≡_, sym, _∙_}
 use Prim.Native.Nat.{_≤_}
 use native.Mathlib.Omega.{arith}
@@ -7,8 +7,8 @@ use Rattle.instrument.specs.Work.{partCells}
 use Rattle.instrument.specs.WorkLaws.{part-counted}
 use Rattle.render.specs.Work.{valid-renderable}
 use borrow.Author.Needs.{needs}
-use Rattle.render_exports.proofs.render_block.Statement.{statement}
-use Rattle.render_exports.proofs.render_block.Tie as tie
+use Rattle.exports_render.proofs.render_block.Statement.{statement}
+use Rattle.exports_render.proofs.render_block.Tie as tie
 
 read-requires : tie.Need-read-requires
 read-requires c κs = search needs
