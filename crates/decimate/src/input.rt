@@ -1,5 +1,6 @@
 // The input files: where a WAV file's samples lie, and the taps.
 use crate::report::complain;
+use text::lines::row;
 use wav::Chunk;
 
 // Where the samples start in the file and how many there are; `found` is false once something is wrong, and then it has been said.
@@ -10,14 +11,18 @@ pub struct Wave {
     pub count: usize,
 }
 
-// The search through the chunks.
+// The search through the chunks, and what is wrong with a file.
 enum Search {
     Unformatted,
     Formatted,
+    Found,
+    NotWave,
     NoData,
     NoFormat,
     OtherFormat,
-    Found,
+    Uneven,
+    TooLong,
+    CutShort,
 }
 
 // Where the search stands: the chunk at `at` comes next, or the data of `size` bytes lie there.
@@ -143,15 +148,6 @@ fn search_chunks(fd: i32) -> Place {
     stopped(Search::NoData)
 }
 
-fn no_wave() -> Wave {
-    Wave {
-        found: false,
-        rate: 0,
-        start: 0,
-        count: 0,
-    }
-}
-
 // Whether the file has its `size` bytes from `at` on: whether the last of them can be read.
 fn is_there(fd: i32, at: u64, size: u64) -> bool {
     if size == 0 {
@@ -162,54 +158,85 @@ fn is_there(fd: i32, at: u64, size: u64) -> bool {
 }
 
 // The samples' number, and that they are all there.
-fn measure(fd: i32, path: &[u8], place: Place) -> Wave {
+fn measured(fd: i32, place: Place) -> Place {
     let size = place.size;
     if size % 8 != 0 {
-        complain(path, b"its data are no whole number of samples");
-        return no_wave();
+        return stopped(Search::Uneven);
     }
     if 0x80_0000 < size {
-        complain(path, b"refused 17: the input exceeds 1,048,576 samples");
-        return no_wave();
+        return stopped(Search::TooLong);
     }
     if !is_there(fd, place.at, size) {
-        complain(path, b"its data are cut short");
-        return no_wave();
+        return stopped(Search::CutShort);
     }
-    Wave {
-        found: true,
-        rate: place.rate,
-        start: place.at,
-        count: (size / 8) as usize,
-    }
+    place
 }
 
-// Where a file's samples are, or what is wrong with it.
-pub fn find_samples(fd: i32, path: &[u8]) -> Wave {
+fn located(fd: i32) -> Place {
     let mut b = [0u8; 12];
     if !read_at(fd, &mut b, 0) {
-        complain(path, b"not a RIFF/WAVE file");
-        return no_wave();
+        return stopped(Search::NotWave);
     }
     if !wav::is_wave(&b) {
-        complain(path, b"not a RIFF/WAVE file");
-        return no_wave();
+        return stopped(Search::NotWave);
     }
     let place = search_chunks(fd);
     let search = place.search;
     match search {
-        Search::Found => measure(fd, path, place),
-        Search::OtherFormat => {
-            complain(path, b"not of format 3 (floats), one channel and 64 bits");
-            no_wave()
-        }
-        Search::NoFormat => {
-            complain(path, b"its data come before its format");
-            no_wave()
-        }
+        Search::Found => measured(fd, place),
+        _ => place,
+    }
+}
+
+fn row_of(search: Search) -> u64 {
+    match search {
+        Search::NotWave => 0,
+        Search::OtherFormat => 1,
+        Search::NoFormat => 2,
+        Search::Uneven => 3,
+        Search::TooLong => 4,
+        Search::CutShort => 5,
+        _ => 6,
+    }
+}
+
+// What is wrong with a file: a row each.
+fn complain_of(path: &[u8], search: Search) {
+    complain(
+        path,
+        row(
+            b"\
+                not a RIFF/WAVE file\n\
+                not of format 3 (floats), one channel and 64 bits\n\
+                its data come before its format\n\
+                its data are no whole number of samples\n\
+                refused 17: the input exceeds 1,048,576 samples\n\
+                its data are cut short\n\
+                it has no data chunk\n",
+            row_of(search),
+        ),
+    );
+}
+
+// Where a file's samples are, or what is wrong with it.
+pub fn find_samples(fd: i32, path: &[u8]) -> Wave {
+    let place = located(fd);
+    let search = place.search;
+    match search {
+        Search::Found => Wave {
+            found: true,
+            rate: place.rate,
+            start: place.at,
+            count: (place.size / 8) as usize,
+        },
         _ => {
-            complain(path, b"it has no data chunk");
-            no_wave()
+            complain_of(path, search);
+            Wave {
+                found: false,
+                rate: 0,
+                start: 0,
+                count: 0,
+            }
         }
     }
 }

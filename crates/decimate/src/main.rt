@@ -9,6 +9,7 @@ use input::Wave;
 use report::complain;
 use report::say;
 use report::say_number;
+use text::Number;
 
 enum Factor {
     Of(usize),
@@ -16,28 +17,18 @@ enum Factor {
     NoNumber,
 }
 
-// Digits alone; past 64 their value no longer matters.
-fn factor_of(text: &[u8]) -> Factor {
-    if text.len() == 0 {
-        return Factor::NoNumber;
+// Digits alone, of any number of them.
+fn factor_of(word: &[u8]) -> Factor {
+    let n = text::number_of(word);
+    match n {
+        Number::Value(k) => if k <= 64 {
+            Factor::Of(k as usize)
+        } else {
+            Factor::TooHigh
+        },
+        Number::TooLarge => Factor::TooHigh,
+        Number::None => Factor::NoNumber,
     }
-    let mut n = 0usize;
-    for i in 0..text.len() {
-        let b = text[i];
-        if b < b'0' {
-            return Factor::NoNumber;
-        }
-        if b'9' < b {
-            return Factor::NoNumber;
-        }
-        if n <= 64 {
-            n = 10 * n + (b - b'0') as usize;
-        }
-    }
-    if 64 < n {
-        return Factor::TooHigh;
-    }
-    Factor::Of(n)
 }
 
 // The rate of every factor-th sample, rounded to the nearest whole number.
@@ -57,27 +48,8 @@ fn summarise(count: u64, rate: u64, factor: u64, outputs: u64) {
     say(b" Hz\n");
 }
 
-// Writes OUT once all that it is made of is known to be there.
-fn write_wave(source: i32, wave: Wave, taps: &[f64; 127], factor: usize, output: &[u8]) {
-    let count = wave.count;
-    let outputs = decimator::output_length(count, factor);
-    let target = os::open_overwrite(output);
-    if target < 0 {
-        os::fail(output);
-        return;
-    }
-    let header = wav::header(thinned_rate(wave.rate, factor as u64), outputs as u64);
-    let begun = io::write_all(target, &header);
-    let plan = Plan {
-        source,
-        target,
-        start: wave.start,
-        count,
-        factor,
-        outputs,
-    };
-    let done = blocks::write_all(plan, taps);
-    libc::close(target);
+// What was written, or what is wrong with it.
+fn summarise_wave(output: &[u8], plan: Plan, rate: u64, begun: bool, done: bool) {
     if !begun {
         complain(output, b"cannot be written");
         return;
@@ -86,23 +58,42 @@ fn write_wave(source: i32, wave: Wave, taps: &[f64; 127], factor: usize, output:
         complain(output, b"could not be finished: a read or a write failed");
         return;
     }
-    summarise(count as u64, wave.rate, factor as u64, outputs as u64);
+    summarise(
+        plan.count as u64,
+        rate,
+        plan.factor as u64,
+        plan.outputs as u64,
+    );
 }
 
-fn is_same(a: &[u8], b: &[u8]) -> bool {
-    if a.len() != b.len() {
-        return false;
+fn write_plan(plan: Plan, rate: u64, taps: &[f64; 127], output: &[u8]) {
+    let header = wav::header(thinned_rate(rate, plan.factor as u64), plan.outputs as u64);
+    let begun = io::write_all(plan.target, &header);
+    let done = blocks::write_all(plan, taps);
+    libc::close(plan.target);
+    summarise_wave(output, plan, rate, begun, done);
+}
+
+// Writes OUT once all that it is made of is known to be there.
+fn write_wave(source: i32, wave: Wave, taps: &[f64; 127], factor: usize, output: &[u8]) {
+    let target = os::open_overwrite(output);
+    if target < 0 {
+        os::fail(output);
+        return;
     }
-    for i in 0..a.len() {
-        if a[i] != b[i] {
-            return false;
-        }
-    }
-    true
+    let plan = Plan {
+        source,
+        target,
+        start: wave.start,
+        count: wave.count,
+        factor,
+        outputs: decimator::output_length(wave.count, factor),
+    };
+    write_plan(plan, wave.rate, taps, output);
 }
 
 fn run(input: &[u8], tap_path: &[u8], factor: usize, output: &[u8]) {
-    if is_same(input, output) {
+    if check::same(input, output) {
         complain(output, b"it is the input");
         return;
     }
@@ -121,6 +112,23 @@ fn run(input: &[u8], tap_path: &[u8], factor: usize, output: &[u8]) {
     libc::close(source);
 }
 
+fn run_on_taps(input: &[u8], factor: usize, output: &[u8]) {
+    let mut taps = io::buffer();
+    let n = os::arg(2, &mut taps);
+    run(input, &taps[..n], factor, output);
+}
+
+fn run_by_factor(input: &[u8], output: &[u8]) {
+    let mut word = io::buffer();
+    let n = os::arg(3, &mut word);
+    let factor = factor_of(&word[..n]);
+    match factor {
+        Factor::Of(k) => run_on_taps(input, k, output),
+        Factor::TooHigh => complain(&word[..n], b"refused 17: the factor exceeds 64"),
+        Factor::NoNumber => complain(&word[..n], b"the factor is no whole number"),
+    }
+}
+
 fn main() {
     if os::arg_count() != 5 {
         io::write_all(
@@ -131,16 +139,7 @@ fn main() {
     }
     let mut input = io::buffer();
     let n = os::arg(1, &mut input);
-    let mut taps = io::buffer();
-    let t = os::arg(2, &mut taps);
-    let mut text = io::buffer();
-    let f = os::arg(3, &mut text);
     let mut output = io::buffer();
     let m = os::arg(4, &mut output);
-    let factor = factor_of(&text[..f]);
-    match factor {
-        Factor::Of(k) => run(&input[..n], &taps[..t], k, &output[..m]),
-        Factor::TooHigh => complain(&text[..f], b"refused 17: the factor exceeds 64"),
-        Factor::NoNumber => complain(&text[..f], b"the factor is no whole number"),
-    }
+    run_by_factor(&input[..n], &output[..m]);
 }

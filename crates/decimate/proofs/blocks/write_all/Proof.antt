@@ -1,3 +1,4 @@
+-- Safe and ending: each block's outputs are counted as done, and the lent parts keep their lengths.
 use mathlib.Core.Path.{_≡_}
 use Prim.Native.Nat.{_-_, _≤_}
 use lib.ListN.{length}
@@ -6,7 +7,8 @@ use Rattle.decimate.proofs.blocks.write_all.Statement.{statement}
 use Rattle.decimate.proofs.blocks.write_all.Tie as tie
 
 abbrev Inv-loop : tie.InvT-loop
-Inv-loop plan taps samples₀ outputs₀ bytes₀ block at₀ done₀ samples outputs bytes at done = (length samples ≡ length samples₀) × (length outputs ≡ length outputs₀) × (length bytes ≡ length bytes₀) × (done ≤ plan .outputs)
+Inv-loop plan taps samples₀ outputs₀ bytes₀ block at₀ done₀ samples outputs bytes at done =
+    (length samples ≡ length samples₀) × (length outputs ≡ length outputs₀) × (length bytes ≡ length bytes₀) × (done ≤ plan .outputs)
 
 abbrev μ-loop : tie.MeasureT-loop
 μ-loop plan taps samples₀ outputs₀ bytes₀ block at₀ done₀ samples outputs bytes at done = plan .outputs - done

@@ -1,3 +1,4 @@
+-- Safe and ending: the chunks are counted.
 use Prim.Native.Nat.{_-_, _≤_}
 use borrow.Author.Needs.{needs}
 use Rattle.decimate.proofs.input.search_chunks.Statement.{statement}
