@@ -1,7 +1,7 @@
 // One stored block: rendered again, and held to what the Rust gave.
-use little_endian::float_of;
 use exports_render::Small;
 use exports_render::render_block;
+use little_endian::float_of;
 use test_answers::alike;
 use test_answers::all_alike;
 use test_answers::digest;

@@ -2,17 +2,17 @@
 use std::num::wrapping_add_u64;
 
 // Both zeros count alike, and so do all NaNs.
-fn bits_of(x: f64) -> u64 {
+fn summed_bits(x: f64) -> u64 {
     if x == 0.0 {
         return 0;
     }
-    wav::bits_of(x)
+    little_endian::bits_of(x)
 }
 
 // A rotation by seven bits, then the float's bits, then a constant: each float changes the sum, and so does their order.
 fn with_float(sum: u64, x: f64) -> u64 {
     wrapping_add_u64(
-        ((sum << 7) | (sum >> 57)) ^ bits_of(x),
+        ((sum << 7) | (sum >> 57)) ^ summed_bits(x),
         0x9e37_79b9_7f4a_7c15,
     )
 }

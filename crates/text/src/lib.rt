@@ -41,7 +41,7 @@ pub fn put_bits(line: &mut [u8], at: usize, x: f64) -> usize {
         return put(line, at, b"nan");
     }
     let mut digits = [0u8; 16];
-    let k = io::hex(wav::bits_of(x), 16, &mut digits);
+    let k = io::hex(little_endian::bits_of(x), 16, &mut digits);
     put(line, at, &digits[..k])
 }
 

@@ -69,15 +69,6 @@ pub fn header(rate: u64, count: u64) -> [u8; 58] {
     h
 }
 
-// A float's bits; one pattern stands for every NaN.
-pub fn bits_of(x: f64) -> u64 {
-    if x != x {
-        0x7ff8_0000_0000_0000
-    } else {
-        f64::to_bits(x)
-    }
-}
-
 // As many of the samples as the bytes hold, eight bytes each; how many bytes that is.
 pub fn put_samples(samples: &[f64], bytes: &mut [u8]) -> usize
     ensures { λ r. ⌜ r ≤ length (now (bytes .exit)) ⌝ }
@@ -87,7 +78,7 @@ pub fn put_samples(samples: &[f64], bytes: &mut [u8]) -> usize
         if bytes.len() - at < 8 {
             return at;
         }
-        put(bytes, at, bits_of(samples[i]), 8);
+        put(bytes, at, little_endian::bits_of(samples[i]), 8);
         at += 8;
     }
     at

@@ -1,3 +1,4 @@
+-- Safe for every i: each turn divides by 256, and a remainder of 256 fits a byte.
 use Prim.Native.Nat.{_+_, _-_, _≤_, _<_}
 use borrow.Author.Needs.{needs}
 use Rattle.wav.proofs.byte_of.Statement.{statement}

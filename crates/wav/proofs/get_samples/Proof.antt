@@ -1,3 +1,4 @@
+-- Safe for every number of bytes: the reads are total, and the loop's index stays below the number of samples.
 use mathlib.Core.Path.{_≡_}
 use Prim.Native.Nat.{_-_}
 use lib.ListN.{length}

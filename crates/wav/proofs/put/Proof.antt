@@ -1,3 +1,4 @@
+-- Safe for every place and count: `store` tests each index, so that the loop only keeps the bytes' number.
 use mathlib.Core.Path.{_≡_}
 use Prim.Native.Nat.{_+_, _-_, _≤_, _<_}
 use lib.ListN.{length}

@@ -1,3 +1,4 @@
+-- The bytes stored never pass the lent ones' end: each turn asks for eight more first, and the loop keeps `at` within them.
 use mathlib.Core.Path.{_≡_}
 use Prim.Native.Nat.{_+_, _-_, _≤_, _<_}
 use lib.ListN.{length}

@@ -1,3 +1,4 @@
+-- Safe for every place: `store` tests each index, and the loop's own stays below the text's length.
 use mathlib.Core.Path.{_≡_}
 use Prim.Native.Nat.{_+_, _-_, _≤_, _<_}
 use lib.ListN.{length}
