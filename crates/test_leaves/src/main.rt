@@ -1,6 +1,7 @@
 // Replays answers of the Rust that `compare/leaves` stored, with no Rust at hand: it reads them,
 // asks the leaves the same, and counts by kind what differs. A line that it cannot read counts too.
 mod answers;
+mod decimated;
 
 use answers::Verdict;
 use libc::STDIN_FILENO;
@@ -162,6 +163,7 @@ fn main() {
     let mut text = blank();
     let n = io::read_full(STDIN_FILENO, &mut text);
     replay(&text[..n]);
+    decimated::print_row();
     if n == 262144 {
         io::write_all(STDOUT_FILENO, b"the answers may go on past what is read\n");
     }
