@@ -1,6 +1,9 @@
 // Answers of the Rust as a file keeps them: a line is a kind's name, then words of sixteen hexadecimal digits, a space
 // before each. Whatever else stands there is unreadable. Both zeros and all NaNs count alike.
+use little_endian::bits_of;
 use little_endian::float_of;
+use text::Number;
+use text::hexadecimal_of;
 ghost use mathlib.Core.Path.{_≡_};
 ghost use Prim.Native.Nat.{_≤_};
 ghost use lib.ListN.{length};
@@ -15,38 +18,19 @@ pub enum Words {
     Unreadable,
 }
 
-fn wide(b: u8) -> u64 {
-    b as u64
-}
-
-// The value of a digit as the file has them; 16 where it is none.
-fn digit(b: u8) -> u64 {
-    if b'0' <= b && b <= b'9' {
-        wide(b - b'0')
-    } else if b'a' <= b && b <= b'f' {
-        wide(b - b'a' + 10)
-    } else {
-        16
-    }
-}
-
 // A space and sixteen digits.
-fn read_word(text: &[u8]) -> Word {
-    if text.len() != 17 {
+fn read_word(line: &[u8]) -> Word {
+    if line.len() != 17 {
         return Word::Not;
     }
-    if text[0] != b' ' {
+    if line[0] != b' ' {
         return Word::Not;
     }
-    let mut value: u64 = 0;
-    for i in 1usize..17usize {
-        let d = digit(text[i]);
-        if d == 16 {
-            return Word::Not;
-        }
-        value = (value << 4) | d;
+    let number = hexadecimal_of(&line[1..17]);
+    match number {
+        Number::Value(value) => Word::Of(value),
+        _ => Word::Not,
     }
-    Word::Of(value)
 }
 
 // All words of what follows a name, into the first places.
@@ -72,17 +56,11 @@ pub fn read_words(text: &[u8], words: &mut [u64]) -> Words {
 
 // Whether a line begins with a name.
 pub fn starts(line: &[u8], name: &[u8]) -> bool {
-    if line.len() < name.len() {
+    let n = name.len();
+    if line.len() < n {
         return false;
     }
-    let mut i: usize = 0;
-    while i < name.len() {
-        if line[i] != name[i] {
-            return false;
-        }
-        i += 1;
-    }
-    true
+    check::same(&line[..n], name)
 }
 
 // The place of the first such byte from `at` on, or the end.
@@ -155,13 +133,7 @@ pub fn all_alike(cells: &[f64], words: &[u64]) -> bool {
 
 // A float's bits, with one pattern for both zeros and one for all NaNs.
 fn bits(x: f64) -> u64 {
-    if x == 0.0 {
-        0
-    } else if x != x {
-        0x7ff8_0000_0000_0000
-    } else {
-        f64::to_bits(x)
-    }
+    if x == 0.0 { 0 } else { bits_of(x) }
 }
 
 // One word for many cells: each turn can be undone, so two lists that differ in one cell have different words.
