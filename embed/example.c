@@ -21,7 +21,7 @@ int main(int argc, char **argv)
     double *work = calloc(sizes.work, sizeof *work);
     double *scratch = calloc(sizes.scratch, sizeof *scratch);
 
-    gingerfile_reply reply = gingerfile_open(file, length, words, GINGERFILE_WORDS, work, sizes.work - 1);
+    gingerfile_report reply = gingerfile_open(file, length, words, GINGERFILE_WORDS, work, sizes.work - 1);
     printf("work memory too small: refused as %llu\n", (unsigned long long)reply.refusal);
     reply = gingerfile_open(file, length, words, GINGERFILE_WORDS, work, sizes.work);
     if (reply.refusal != 0)

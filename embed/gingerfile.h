@@ -53,7 +53,7 @@ typedef struct {
     uint64_t value;
     /* insert and remove: the number of cues dropped. */
     uint64_t dropped;
-} gingerfile_reply;
+} gingerfile_report;
 
 typedef struct {
     uint64_t refusal;
@@ -71,29 +71,29 @@ typedef struct {
 gingerfile_sizes gingerfile_read(const uint8_t *file, size_t file_length);
 
 /* A session in silence at position 0, with no events and no cues. Words and work may hold anything before. Refuses 1 to 8. */
-gingerfile_reply gingerfile_open(const uint8_t *file, size_t file_length, uint64_t *words, size_t words_length, double *work,
+gingerfile_report gingerfile_open(const uint8_t *file, size_t file_length, uint64_t *words, size_t words_length, double *work,
                                  size_t work_length);
 
 /* Renders as many samples as `out` has; the first forces of `trace` are those of the samples with a hammer. Refuses 1 to 11. */
-gingerfile_reply gingerfile_play(const uint8_t *file, size_t file_length, uint64_t *words, size_t words_length, double *work,
+gingerfile_report gingerfile_play(const uint8_t *file, size_t file_length, uint64_t *words, size_t words_length, double *work,
                                  size_t work_length, double *scratch, size_t scratch_length, double *out,
                                  size_t out_length, double *trace, size_t trace_length);
 
 /* Keeps the state at t; no change where t is kept already. Refuses 1 to 8 and 15. */
-gingerfile_reply gingerfile_cue(const uint8_t *file, size_t file_length, uint64_t *words, size_t words_length, double *work,
+gingerfile_report gingerfile_cue(const uint8_t *file, size_t file_length, uint64_t *words, size_t words_length, double *work,
                                 size_t work_length);
 
 /* To position p, from the nearest of 0, the kept cues and t. Refuses 1 to 9, 11 and 16. */
-gingerfile_reply gingerfile_go(const uint8_t *file, size_t file_length, uint64_t *words, size_t words_length, double *work,
+gingerfile_report gingerfile_go(const uint8_t *file, size_t file_length, uint64_t *words, size_t words_length, double *work,
                                size_t work_length, double *scratch, size_t scratch_length, uint64_t p);
 
 /* Places an event after all events at or before its position. `velocity` counts for a strike alone. Refuses 1 to 8 and 11 to 13. */
-gingerfile_reply gingerfile_insert(const uint8_t *file, size_t file_length, uint64_t *words, size_t words_length,
+gingerfile_report gingerfile_insert(const uint8_t *file, size_t file_length, uint64_t *words, size_t words_length,
                                    double *work, size_t work_length, uint64_t position, uint64_t kind, uint64_t key,
                                    double velocity);
 
 /* Removes the event at an index from 0. Refuses 1 to 8 and 14. */
-gingerfile_reply gingerfile_remove(const uint8_t *file, size_t file_length, uint64_t *words, size_t words_length,
+gingerfile_report gingerfile_remove(const uint8_t *file, size_t file_length, uint64_t *words, size_t words_length,
                                    double *work, size_t work_length, size_t index);
 
 typedef struct {

@@ -29,7 +29,7 @@ pub struct Edited {
 }
 
 #[repr(C)]
-struct Reply {
+struct Report {
     refusal: u64,
     value: u64,
     dropped: u64,
@@ -58,23 +58,23 @@ pub struct KeyEnergies {
 #[rustfmt::skip]
 extern "C" {
     fn gingerfile_read(file: *const u8, file_length: usize) -> Sizes;
-    fn gingerfile_open(file: *const u8, file_length: usize, words: *mut u64, words_length: usize, work: *mut f64, work_length: usize) -> Reply;
+    fn gingerfile_open(file: *const u8, file_length: usize, words: *mut u64, words_length: usize, work: *mut f64, work_length: usize) -> Report;
     fn gingerfile_play(
         file: *const u8, file_length: usize, words: *mut u64, words_length: usize, work: *mut f64, work_length: usize,
         scratch: *mut f64, scratch_length: usize, out: *mut f64, out_length: usize, trace: *mut f64, trace_length: usize,
-    ) -> Reply;
-    fn gingerfile_cue(file: *const u8, file_length: usize, words: *mut u64, words_length: usize, work: *mut f64, work_length: usize) -> Reply;
+    ) -> Report;
+    fn gingerfile_cue(file: *const u8, file_length: usize, words: *mut u64, words_length: usize, work: *mut f64, work_length: usize) -> Report;
     fn gingerfile_go(
         file: *const u8, file_length: usize, words: *mut u64, words_length: usize, work: *mut f64, work_length: usize,
         scratch: *mut f64, scratch_length: usize, p: u64,
-    ) -> Reply;
+    ) -> Report;
     fn gingerfile_insert(
         file: *const u8, file_length: usize, words: *mut u64, words_length: usize, work: *mut f64, work_length: usize,
         position: u64, kind: u64, key: u64, velocity: f64,
-    ) -> Reply;
+    ) -> Report;
     fn gingerfile_remove(
         file: *const u8, file_length: usize, words: *mut u64, words_length: usize, work: *mut f64, work_length: usize, index: usize,
-    ) -> Reply;
+    ) -> Report;
     fn gingerfile_energies(
         file: *const u8, file_length: usize, words: *const u64, words_length: usize, work: *const f64, work_length: usize,
     ) -> KeyEnergies;
@@ -121,14 +121,14 @@ pub fn decimate(x: &[f64], taps: &[f64], factor: usize) -> Result<Vec<f64>, Refu
     Ok(out)
 }
 
-impl Reply {
-    fn accepted(self) -> Result<Reply, Refusal> {
+impl Report {
+    fn accepted(self) -> Result<Report, Refusal> {
         accepted(self.refusal)?;
         Ok(self)
     }
 
     fn edited(self) -> Result<Edited, Refusal> {
-        let Reply { value, dropped, .. } = self.accepted()?;
+        let Report { value, dropped, .. } = self.accepted()?;
         Ok(Edited { t: value, dropped })
     }
 }

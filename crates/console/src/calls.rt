@@ -1,6 +1,6 @@
 // A script's calls of the session, each with as much memory as is lent.
 use crate::Console;
-use crate::Reply;
+use crate::Response;
 use crate::Turn;
 use crate::called;
 use crate::fitting;
@@ -60,7 +60,7 @@ fn play(
     trace: &mut [f64],
 ) -> Turn {
     if (out.len() as u64) < m {
-        return replied(console, Reply::Bad(Fault::TooLarge));
+        return replied(console, Response::Bad(Fault::TooLarge));
     }
     let lent = console.lent;
     let n = fitting(m as usize, out);

@@ -32,7 +32,7 @@ pub struct Console {
 }
 
 // What a line is answered: nothing, what it lacks, a call's answer, that it is done, or what it asked to see.
-pub enum Reply {
+pub enum Response {
     Skipped,
     Bad(Fault),
     Called(Answer),
@@ -44,7 +44,7 @@ pub enum Reply {
 // A line's reply, and how many samples and forces its call put into the lent buffers.
 pub struct Turn {
     pub console: Console,
-    pub reply: Reply,
+    pub reply: Response,
     pub samples: usize,
     pub forces: usize,
 }
@@ -56,7 +56,7 @@ pub fn fitting(n: usize, cells: &[f64]) -> usize
     if n < cells.len() { n } else { cells.len() }
 }
 
-fn replied(console: Console, reply: Reply) -> Turn {
+fn replied(console: Console, reply: Response) -> Turn {
     Turn {
         console,
         reply,
@@ -68,7 +68,7 @@ fn replied(console: Console, reply: Reply) -> Turn {
 fn called(lent: Lent, outcome: Outcome) -> Turn {
     let session = outcome.session;
     let answer = outcome.answer;
-    replied(Console { session, lent }, Reply::Called(answer))
+    replied(Console { session, lent }, Response::Called(answer))
 }
 
 // 6S; no instrument has more than 32 strings.
@@ -91,9 +91,9 @@ pub fn open(instrument: Instrument, work: &mut [f64], trace: &[f64]) -> Turn {
 }
 
 // Whether the session was opened.
-pub fn is_opened(reply: Reply) -> bool {
+pub fn is_opened(reply: Response) -> bool {
     match reply {
-        Reply::Called(answer) => is_opening(answer),
+        Response::Called(answer) => is_opening(answer),
         _ => false,
     }
 }
@@ -127,11 +127,11 @@ fn lent_with(lent: Lent, kind: Kind, n: usize) -> Lent {
 // A buffer of `cells` cells lends no more.
 fn lend(console: Console, kind: Kind, n: u64, cells: usize) -> Turn {
     if (cells as u64) < n {
-        return replied(console, Reply::Bad(Fault::TooLarge));
+        return replied(console, Response::Bad(Fault::TooLarge));
     }
     let session = console.session;
     let lent = lent_with(console.lent, kind, n as usize);
-    replied(Console { session, lent }, Reply::Done)
+    replied(Console { session, lent }, Response::Done)
 }
 
 // One line's command. `work`, `scratch`, `out` and `trace` are all that the program has.
@@ -146,10 +146,10 @@ pub fn answer(
 ) -> Turn {
     let kind = command.kind;
     match kind {
-        Kind::Blank => replied(console, Reply::Skipped),
-        Kind::Bad(fault) => replied(console, Reply::Bad(fault)),
-        Kind::Energies => replied(console, Reply::Energies),
-        Kind::State => replied(console, Reply::State),
+        Kind::Blank => replied(console, Response::Skipped),
+        Kind::Bad(fault) => replied(console, Response::Bad(fault)),
+        Kind::Energies => replied(console, Response::Energies),
+        Kind::State => replied(console, Response::State),
         Kind::LendScratch => lend(console, kind, command.number, scratch.len()),
         Kind::LendTrace => lend(console, kind, command.number, trace.len()),
         Kind::LendWork => lend(console, kind, command.number, work.len()),

@@ -1,6 +1,6 @@
 // The line of text that answers a line of the script.
 use crate::Console;
-use crate::Reply;
+use crate::Response;
 use crate::cue_list::put_cues;
 use crate::energy_list;
 use crate::fitting;
@@ -88,17 +88,17 @@ fn put_energies(line: &mut [u8], instrument: Instrument, console: Console, work:
 pub fn put_reply(
     line: &mut [u8],
     number: u64,
-    reply: Reply,
+    reply: Response,
     instrument: Instrument,
     console: Console,
     work: &[f64],
 ) -> usize {
     match reply {
-        Reply::Skipped => 0,
-        Reply::Bad(fault) => put_fault(line, number, fault),
-        Reply::Called(answer) => put_answer(line, answer, instrument),
-        Reply::Done => put(line, 0, b"ok"),
-        Reply::Energies => put_energies(line, instrument, console, work),
-        Reply::State => put_state(line, console.session),
+        Response::Skipped => 0,
+        Response::Bad(fault) => put_fault(line, number, fault),
+        Response::Called(answer) => put_answer(line, answer, instrument),
+        Response::Done => put(line, 0, b"ok"),
+        Response::Energies => put_energies(line, instrument, console, work),
+        Response::State => put_state(line, console.session),
     }
 }

@@ -7,7 +7,7 @@ use crate::progress::Ending;
 use crate::progress::Progress;
 use crate::progress::goes_on;
 use console::Console;
-use console::Reply;
+use console::Response;
 use instrument::Instrument;
 use std::num::wrapping_add_u64;
 use text::lines::Reader;
@@ -19,7 +19,7 @@ pub struct Rehearsal {
 
 fn say_reply(
     p: Progress,
-    reply: Reply,
+    reply: Response,
     instrument: Instrument,
     console: Console,
     work: &[f64],
