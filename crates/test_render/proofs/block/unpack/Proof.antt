@@ -8,7 +8,9 @@ use Rattle.test_render.proofs.block.unpack.Statement.{statement}
 use Rattle.test_render.proofs.block.unpack.Tie as tie
 
 abbrev Inv-loop : tie.InvT-loop
-Inv-loop events positions₀ kinds₀ keys₀ velocities₀ n₀ positions kinds keys velocities n = (n ≤ 64) × (length positions ≡ length positions₀) × (length kinds ≡ length kinds₀) × (length keys ≡ length keys₀) × (length velocities ≡ length velocities₀)
+Inv-loop events positions₀ kinds₀ keys₀ velocities₀ n₀ positions kinds keys velocities n =
+    (n ≤ 64) × (length positions ≡ length positions₀) × (length kinds ≡ length kinds₀)
+    × (length keys ≡ length keys₀) × (length velocities ≡ length velocities₀)
 
 abbrev μ-loop : tie.MeasureT-loop
 μ-loop events positions₀ kinds₀ keys₀ velocities₀ n₀ positions kinds keys velocities n = 64 - n
