@@ -42,6 +42,20 @@ proved_library() {
     made "target/staticlib/lib$1.a" rt staticlib "$1"
 }
 
+# proved_libraries NAME..: the same of several at a time. Each looks at the crates below it first and writes down what it finds, so the next begins a
+# little later; one that fails is made again, and its failure told, by the first that needs it.
+proved_libraries() {
+    (
+        flock 9
+        for name in "$@"; do
+            stands "target/staticlib/lib$name.a" crates crates.txt && continue
+            rt staticlib "$name" >"target/compare/$name.log" 2>&1 &
+            sleep 10
+        done
+        wait
+    ) 9>target/compare/lock
+}
+
 # proved_program NAME: makes target/bin/NAME.
 proved_program() {
     made "target/bin/$1" rt check "$1"
