@@ -30,7 +30,7 @@ impl Played {
     }
 
     pub fn ready(&mut self) {
-        self.console.set_words(&self.words);
+        self.console.set_words(&self.words).expect("a session's words");
         self.console.work_mut().fill(0.0);
     }
 

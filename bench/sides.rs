@@ -49,7 +49,7 @@ impl Sides {
         self.rust = self.instrument.piano();
         self.published = self.instrument.published_piano();
         self.rendered = Vec::new();
-        self.console.set_words(&self.words);
+        self.console.set_words(&self.words).expect("a session's words");
         self.console.work_mut().fill(0.0);
     }
 

@@ -59,7 +59,7 @@ impl Output {
     /// Gives the refusal's number, 0 for none.
     fn decimate(&mut self, x: &[f64], taps: &[f64], factor: usize) -> u64 {
         let end = self.0.len() - FENCE;
-        decimate_into(x, taps, factor, &mut self.0[FENCE..end]).map_or_else(|Refusal(number)| number, |()| 0)
+        decimate_into(x, taps, factor, &mut self.0[FENCE..end]).map_or_else(Refusal::number, |()| 0)
     }
 
     /// Whether the cells around the output are as they were.

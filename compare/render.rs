@@ -7,7 +7,7 @@ mod stored_renders;
 
 use comparison::common::{alike, all_alike, Random};
 use comparison::events::opened;
-use comparison::gingerfile::{Console, Refusal, PIANO};
+use comparison::gingerfile::{Console, PIANO};
 use comparison::instrument::Instrument;
 use comparison::instruments::{self, pick, Size};
 use comparison::model::{inside, Event, Piano};
@@ -127,7 +127,7 @@ fn energies_differ(counts: &mut Counts, rust: &Piano, console: &Console) -> Opti
     let expected = rust.key_energies();
     let found = match console.key_energies() {
         Ok(found) => found,
-        Err(Refusal(number)) => return Some(format!("energies: refused {number}")),
+        Err(refusal) => return Some(format!("energies: {refusal}")),
     };
     let mut pairs: Vec<(u8, f64)> = found.keys.into_iter().zip(found.energies).collect();
     let past = pairs.split_off(found.count);
@@ -160,7 +160,7 @@ fn random_energies_differ(counts: &mut Counts, instrument: &Instrument, cells: &
     inside::set_lines(&mut piano, cells);
     let mut console = match Console::open(&instrument.bytes()) {
         Ok(console) => console,
-        Err(Refusal(number)) => return Some(format!("refused {number}")),
+        Err(refusal) => return Some(refusal.to_string()),
     };
     console.work_mut()[..cells.len()].copy_from_slice(cells);
     energies_differ(counts, &piano, &console)
@@ -207,7 +207,7 @@ fn differs(
 ) -> Option<String> {
     let mut console = match opened(instrument, events) {
         Ok(console) => console,
-        Err(Refusal(number)) => return Some(format!("refused {number}")),
+        Err(refusal) => return Some(refusal.to_string()),
     };
     let cells = instrument.cells();
     let (mut t, mut forces) = (0, 0);
@@ -215,7 +215,7 @@ fn differs(
         let (mut out, mut trace) = (vec![UNTOUCHED; length], vec![UNTOUCHED; length + 1]);
         let found = match console.play(&mut out, &mut trace) {
             Ok(found) => found,
-            Err(Refusal(number)) => return Some(format!("block of {length} from {t}: refused {number}")),
+            Err(refusal) => return Some(format!("block of {length} from {t}: {refusal}")),
         };
         let part = &console.work()[..cells];
         let mut rust = instrument.piano();

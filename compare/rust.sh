@@ -70,7 +70,7 @@ rustc_of() {
 
 # shared_library: makes target/compare/libcomparison.rlib of compare/lib, the patched Rust and the library's wrapper.
 shared_library() {
-    stands target/compare/libcomparison.rlib compare/lib compare/patch.rs embed/gingerfile.rs "$rust_source/model.rs" && return
+    stands target/compare/libcomparison.rlib compare/lib compare/patch.rs embed/src "$rust_source/model.rs" && return
     rustc --edition 2021 -o target/compare/patch compare/patch.rs
     target/compare/patch "$rust_source/model.rs" target/compare
     rustc_of target/compare/libcomparison.rlib --crate-name comparison --crate-type rlib compare/lib/lib.rs

@@ -5,7 +5,7 @@ pub mod common;
 pub mod contacts;
 pub mod design;
 #[macro_use]
-#[path = "../../embed/gingerfile.rs"]
+#[path = "../../embed/src/lib.rs"]
 pub mod gingerfile;
 pub mod events;
 pub mod exports;
