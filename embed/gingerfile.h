@@ -2,10 +2,21 @@
    a pointer and a length in elements. Slices of one call must not overlap. Nothing is kept between calls: the host owns the
    instrument's file, the session's words and the work memory, and hands them to every call.
 
-   Every call answers a refusal's number, 0 for none. A refused call changes nothing.
+   Every call answers a refusal's number, 0 for none. A refused call changes nothing. docs/EMBEDDING.md is the page for hosts.
+
+   A host sees to three things.
+
+   Floats   rounded to nearest, and subnormal numbers neither flushed to zero nor taken as zeros: audio hosts often set that.
+            Otherwise samples, forces and counts are not the proved ones. At the start of a thread, or around the calls:
+            fesetround(FE_TONEAREST) of <fenv.h>, _MM_SET_FLUSH_ZERO_MODE(_MM_FLUSH_ZERO_OFF) of <xmmintrin.h> and
+            _MM_SET_DENORMALS_ZERO_MODE(_MM_DENORMALS_ZERO_OFF) of <pmmintrin.h>. The library does not set them itself.
+   Stack    GINGERFILE_STACK bytes below the frame that a call is made in. The most that was measured is 45,320, of insert;
+            embed/c/stack.c measures each call, and makes each with exactly the promised stack.
+   Threads  any number of them may make calls at the same time, each on its own words, work, scratch, output and trace; the
+            instrument's file is only read and may be shared. A call allocates nothing, takes no lock and makes no system call.
 
     1 to 6  the file: table, chain, lengths, fields, over 32 strings, a key twice
-    7       the words are no session's, or an event's numbers no event's
+    7       the words are no session's on this instrument, or an event's numbers no event's
     8       work memory has fewer cells than gingerfile_read says
     9       scratch has fewer cells than gingerfile_read says
    10       the trace is shorter than the output
@@ -29,7 +40,10 @@ extern "C" {
 #endif
 
 /* A session's words, one a number: the position t, the number of events, 64 events, four cues, the piano now. A host may
-   read them and keep copies of them. Words that a call has not written are refused as 7. */
+   read them and keep copies of them. Words of another number than 541, or that are no session's, are refused as 7.
+
+   541 zeros are a session: at position 0, with no events and no cues. So words that no call has written may pass, and the work
+   memory is then taken as the strings' state, whatever it holds; gingerfile_open writes both. */
 enum {
     GINGERFILE_WORDS = 541,
     GINGERFILE_T = 0,
@@ -43,6 +57,10 @@ enum {
     GINGERFILE_PIANO = 486,
     GINGERFILE_CONTACT_SAMPLES = 539
 };
+
+/* Bytes of stack that every call has room in, below the frame that it is made in; and what to give a thread that makes calls,
+   which has its own needs beside them. */
+enum { GINGERFILE_STACK = 49152, GINGERFILE_THREAD = 65536 };
 
 /* Kinds of an event; the pedal's key is 1 for down, 0 for up. */
 enum { GINGERFILE_STRIKE = 0, GINGERFILE_RELEASE = 1, GINGERFILE_PEDAL = 2, GINGERFILE_HAND_DAMP = 3 };

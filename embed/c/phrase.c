@@ -1,43 +1,122 @@
-/* Opens a session on an instrument file, plays a strike, and prints how many forces it pushed: `example FILE`. */
+/* A phrase with a cue and a step back: `phrase INSTRUMENT OUT.wav`. It strikes the instrument's keys one after the other. */
 #include "gingerfile.h"
 #include <stdio.h>
 #include <stdlib.h>
+#include <string.h>
 
-static uint8_t file[65536];
+enum { BLOCK = 256, LONGEST_FILE = 65536 };
+
+/* A session, and what it is lent. */
+static uint8_t file[LONGEST_FILE];
 static uint64_t words[GINGERFILE_WORDS];
-static double out[4410], trace[4410];
+static size_t length;
+static double *work, *scratch;
+static gingerfile_sizes sizes;
+
+#define SESSION file, length, words, GINGERFILE_WORDS, work, sizes.work
+#define SCRATCH scratch, sizes.scratch
+
+static void check(int good, const char *what)
+{
+    if (!good) {
+        fprintf(stderr, "phrase: %s\n", what);
+        exit(1);
+    }
+}
+
+static gingerfile_report accepted(gingerfile_report report)
+{
+    if (report.refusal != 0) {
+        fprintf(stderr, "phrase: refused as %llu\n", (unsigned long long)report.refusal);
+        exit(1);
+    }
+    return report;
+}
+
+/* Plays in blocks, as an audio callback would; the number of forces. */
+static uint64_t play(double *out, size_t count)
+{
+    static double trace[BLOCK];
+    uint64_t forces = 0;
+    for (size_t done = 0; done < count; done += BLOCK) {
+        const size_t block = count - done < BLOCK ? count - done : BLOCK;
+        forces += accepted(gingerfile_play(SESSION, SCRATCH, out + done, block, trace, BLOCK)).value;
+    }
+    return forces;
+}
+
+static void put(FILE *out, uint32_t number, size_t bytes)
+{
+    check(fwrite(&number, bytes, 1, out) == 1, "the WAV cannot be written");
+}
+
+/* Mono, 64-bit floats. */
+static void write_wav(const char *path, const double *samples, size_t count)
+{
+    FILE *out = fopen(path, "wb");
+    const uint32_t rate = (uint32_t)(sizes.fs + 0.5), bytes = (uint32_t)(8 * count);
+    check(out != NULL && fputs("RIFF", out) >= 0, "the WAV cannot be written");
+    put(out, 36 + bytes, 4);
+    fputs("WAVEfmt ", out);
+    put(out, 16, 4);
+    put(out, 3, 2);
+    put(out, 1, 2);
+    put(out, rate, 4);
+    put(out, 8 * rate, 4);
+    put(out, 8, 2);
+    put(out, 64, 2);
+    fputs("data", out);
+    put(out, bytes, 4);
+    check(fwrite(samples, 8, count, out) == count && fclose(out) == 0, "the WAV cannot be written");
+}
 
 int main(int argc, char **argv)
 {
-    FILE *source = argc > 1 ? fopen(argv[1], "rb") : NULL;
-    if (source == NULL)
-        return 2;
-    size_t length = fread(file, 1, sizeof file, source);
+    check(argc == 3, "usage: phrase INSTRUMENT OUT.wav");
+    FILE *source = fopen(argv[1], "rb");
+    check(source != NULL, "the instrument cannot be opened");
+    length = fread(file, 1, sizeof file, source);
     fclose(source);
 
-    gingerfile_sizes sizes = gingerfile_read(file, length);
-    if (sizes.refusal != 0 || sizes.words != GINGERFILE_WORDS)
-        return 3;
-    double *work = calloc(sizes.work, sizeof *work);
-    double *scratch = calloc(sizes.scratch, sizeof *scratch);
+    sizes = gingerfile_read(file, length);
+    check(sizes.refusal == 0, "the instrument is refused");
+    check(sizes.words == GINGERFILE_WORDS, "the library is of another version than the header");
+    work = calloc(sizes.work, sizeof *work);
+    scratch = calloc(sizes.scratch, sizeof *scratch);
+    check(work != NULL && scratch != NULL, "no memory");
 
-    gingerfile_report reply = gingerfile_open(file, length, words, GINGERFILE_WORDS, work, sizes.work - 1);
-    printf("work memory too small: refused as %llu\n", (unsigned long long)reply.refusal);
-    reply = gingerfile_open(file, length, words, GINGERFILE_WORDS, work, sizes.work);
-    if (reply.refusal != 0)
-        return 4;
-    reply = gingerfile_insert(file, length, words, GINGERFILE_WORDS, work, sizes.work, 0, 4, 60, 3.0);
-    printf("an event of kind 4: refused as %llu\n", (unsigned long long)reply.refusal);
-    reply = gingerfile_insert(file, length, words, GINGERFILE_WORDS, work, sizes.work, 0, GINGERFILE_STRIKE, 60, 3.0);
-    if (reply.refusal != 0)
-        return 5;
-    reply = gingerfile_play(file, length, words, GINGERFILE_WORDS, work, sizes.work, scratch, sizes.scratch, out, 4410, trace,
-                            4410);
-    if (reply.refusal != 0)
-        return 6;
-    printf("at %llu: %llu forces, %llu contact samples\n", (unsigned long long)words[GINGERFILE_T],
-           (unsigned long long)reply.value, (unsigned long long)words[GINGERFILE_CONTACT_SAMPLES]);
+    /* one cell fewer than the instrument asks for is refused */
+    check(gingerfile_open(file, length, words, GINGERFILE_WORDS, work, sizes.work - 1).refusal == 8, "8 was to come");
+    accepted(gingerfile_open(SESSION));
+
+    const gingerfile_key_energies keys = gingerfile_energies(SESSION);
+    const size_t beat = (size_t)(0.25 * sizes.fs), count = (keys.count + 4) * beat;
+    double *samples = calloc(count, sizeof *samples), *again = calloc(beat, sizeof *again);
+    check(samples != NULL && again != NULL, "no memory");
+    for (size_t k = 0; k < keys.count; k++)
+        accepted(gingerfile_insert(SESSION, k * beat, GINGERFILE_STRIKE, keys.keys[k], 3.0));
+    accepted(gingerfile_insert(SESSION, 0, GINGERFILE_PEDAL, 1, 0.0));
+    accepted(gingerfile_insert(SESSION, (keys.count + 1) * beat, GINGERFILE_PEDAL, 0, 0.0));
+    for (size_t k = 0; k < keys.count; k++)
+        accepted(gingerfile_insert(SESSION, (keys.count + 1) * beat, GINGERFILE_RELEASE, keys.keys[k], 0.0));
+    check(gingerfile_insert(SESSION, 0, 4, 60, 3.0).refusal == 7, "7 was to come: there is no event of kind 4");
+
+    /* a cue at the last strike; a beat on, and back */
+    uint64_t forces = play(samples, (keys.count - 1) * beat);
+    accepted(gingerfile_cue(SESSION));
+    forces += play(samples + (keys.count - 1) * beat, beat);
+    const uint64_t contacts = words[GINGERFILE_CONTACT_SAMPLES];
+    const uint64_t replayed = accepted(gingerfile_go(SESSION, SCRATCH, (keys.count - 1) * beat)).value;
+    play(again, beat);
+    check(memcmp(again, samples + (keys.count - 1) * beat, beat * sizeof *again) == 0, "a step back plays something else");
+    check(words[GINGERFILE_CONTACT_SAMPLES] == contacts, "a step back counts something else");
+    forces += play(samples + keys.count * beat, 4 * beat);
+    write_wav(argv[2], samples, count);
+    printf("from C: %zu samples, %llu forces; a step back replays %llu, and the count is %llu again\n", count,
+           (unsigned long long)forces, (unsigned long long)replayed, (unsigned long long)contacts);
     free(work);
     free(scratch);
+    free(samples);
+    free(again);
     return 0;
 }

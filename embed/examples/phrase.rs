@@ -39,7 +39,10 @@ fn phrase(file: &[u8]) -> Result<(Vec<f64>, f64), Refusal> {
     let bits = |samples: &[f64]| -> Vec<u64> { samples.iter().map(|x| x.to_bits()).collect() };
     assert_eq!(bits(&first[441..]), bits(&again), "a step back plays the same");
     assert_eq!(console.contact_samples(), count, "and counts the same");
-    println!("a step back: {replayed} samples replayed from the cue, the next {} and the count {count} are the same", again.len());
+    println!(
+        "a step back: {replayed} samples replayed from the cue, the next {} and the count {count} are the same",
+        again.len()
+    );
 
     // An edit of the sixth strike takes the piano back to the cue.
     let index = console.events().position(|(q, event)| q == 5 * beat && matches!(event, Event::NoteOn { .. }));

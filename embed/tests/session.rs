@@ -1,0 +1,213 @@
+//! The calls and what they refuse, through the wrapper.
+
+mod common;
+
+use common::{bits, instrument, play, Strings, LEAST, PIANO};
+use gingerfile::{decimate, decimate_into, decimated_length, Console, Edited, Event, Refusal, PIANO as NOW, T, WORDS};
+
+const STRIKE: Event = Event::NoteOn { key: 60, velocity: 3.0 };
+
+/// A score of every kind of event, played past a cue.
+fn rehearsed() -> Console {
+    let mut console = Console::open(PIANO).unwrap();
+    console.insert(0, STRIKE).unwrap();
+    console.insert(2_000, Event::NoteOff { key: 60 }).unwrap();
+    console.insert(50, Event::Pedal(true)).unwrap();
+    console.insert(3_000, Event::HandDamp { key: 64 }).unwrap();
+    console.insert(1_000, Event::NoteOn { key: 64, velocity: 2.5 }).unwrap();
+    play(&mut console, 900).unwrap();
+    console.cue().unwrap();
+    play(&mut console, 110).unwrap();
+    console
+}
+
+/// A call that is refused as `refusal` has changed nothing.
+fn refused<A: std::fmt::Debug>(
+    console: &mut Console,
+    refusal: Refusal,
+    call: impl FnOnce(&mut Console) -> Result<A, Refusal>,
+) {
+    let before = (console.words().to_vec(), bits(console.work()));
+    assert_eq!(call(console).map(|_| ()), Err(refusal));
+    assert_eq!((console.words().to_vec(), bits(console.work())), before, "{refusal} has changed the session");
+}
+
+#[test]
+fn files_are_refused_by_number() {
+    let refusal = |file: &[u8]| Console::open(file).map(|_| ()).map_err(Refusal::number);
+    let changed = |at: usize, bytes: &[u8]| {
+        let mut file = PIANO.to_vec();
+        file[at..at + bytes.len()].copy_from_slice(bytes);
+        file
+    };
+    assert_eq!(refusal(PIANO), Ok(()));
+    assert_eq!(refusal(&[]), Err(1));
+    assert_eq!(refusal(&PIANO[..PIANO.len() - 1]), Err(2));
+    // the table of eight keys ends at 76, the common section at 152, where key 36 begins
+    assert_eq!(refusal(&changed(152 + 2, &[4])), Err(3));
+    assert_eq!(refusal(&changed(76, &f64::NAN.to_le_bytes())), Err(4));
+    assert_eq!(refusal(&instrument(&Strings { keys: 11, strings: 3, ..LEAST })), Err(5));
+    assert_eq!(refusal(&changed(152, &[43])), Err(6));
+}
+
+#[test]
+fn calls_are_refused_by_number_and_change_nothing() {
+    let mut console = rehearsed();
+    let (mut out, mut trace) = ([7.0; 10], [8.0; 9]);
+    refused(&mut console, Refusal::TRACE, |c| c.play(&mut out, &mut trace));
+    assert_eq!((out, trace), ([7.0; 10], [8.0; 9]));
+    refused(&mut console, Refusal::PAST_END, |c| c.go(2_000_000_001));
+    refused(&mut console, Refusal::PAST_END, |c| c.insert(2_000_000_001, STRIKE));
+    refused(&mut console, Refusal::REPLAY, |c| c.go(1_010 + 1_000_001));
+    refused(&mut console, Refusal::NO_EVENT, |c| c.remove(5));
+    for velocity in [100.5, -100.5, f64::NAN] {
+        refused(&mut console, Refusal::VELOCITY, |c| c.insert(2_000, Event::NoteOn { key: 60, velocity }));
+    }
+    for _ in 0..3 {
+        play(&mut console, 1).unwrap();
+        console.cue().unwrap();
+    }
+    console.cue().expect("a cue that is kept already");
+    play(&mut console, 1).unwrap();
+    refused(&mut console, Refusal::CUES_FULL, |c| c.cue());
+    while console.event_count() < 64 {
+        console.insert(5_000, STRIKE).unwrap();
+    }
+    refused(&mut console, Refusal::SCORE_FULL, |c| c.insert(5_000, STRIKE));
+}
+
+#[test]
+fn a_session_tells_its_score_cues_and_counts() {
+    let mut console = rehearsed();
+    let score = [
+        (0, STRIKE),
+        (50, Event::Pedal(true)),
+        (1_000, Event::NoteOn { key: 64, velocity: 2.5 }),
+        (2_000, Event::NoteOff { key: 60 }),
+        (3_000, Event::HandDamp { key: 64 }),
+    ];
+    assert_eq!(console.events().collect::<Vec<_>>(), score);
+    assert_eq!(console.cues().collect::<Vec<_>>(), [900]);
+    assert_eq!((console.position(), console.event_count(), console.fs()), (1_010, 5, 44_100.0));
+    assert!(console.contact_samples() > 0 && console.peak_force() > 0.0);
+    assert_eq!(console.file(), PIANO);
+    let keys: Vec<u8> = console.energies().unwrap().iter().map(|(key, _)| *key).collect();
+    assert_eq!(keys, [36, 43, 48, 55, 60, 64, 67, 72]);
+    let said = format!("{console:?}");
+    assert!(said.contains("position: 1010") && said.contains("cues: [900]") && said.len() < 1_000, "{said}");
+
+    assert_eq!(console.remove(2).unwrap(), Edited { t: 900, dropped: 0 });
+    assert_eq!(console.events().map(|(q, _)| q).collect::<Vec<_>>(), [0, 50, 2_000, 3_000]);
+    assert_eq!(console.insert(20, Event::Pedal(false)).unwrap(), Edited { t: 0, dropped: 1 });
+    assert_eq!((console.cues().count(), console.contact_samples(), console.peak_force()), (0, 0, 0.0));
+}
+
+#[test]
+fn words_of_another_length_are_refused() {
+    let mut console = rehearsed();
+    let mut long = console.words().to_vec();
+    long.push(0);
+    for words in [&[][..], &long[..WORDS - 1], &long] {
+        refused(&mut console, Refusal::RECORD, |c| c.set_words(words));
+        assert_eq!(Console::restore(PIANO, words, console.work()).map(|_| ()), Err(Refusal::RECORD));
+    }
+    assert_eq!(console.position(), 1_010);
+    let words = console.words().to_vec();
+    console.set_words(&words).expect("its own words");
+}
+
+/// Each word in turn all ones: refused, but for those that decide nothing, past the score's end and in slots that keep no cue.
+#[test]
+fn words_of_no_session_are_refused() {
+    let mut console = rehearsed();
+    let kept = console.words().to_vec();
+    let mut accepted = 0;
+    for i in 0..WORDS {
+        let mut words = kept.clone();
+        words[i] = u64::MAX;
+        match console.set_words(&words) {
+            Ok(()) => {
+                accepted += 1;
+                console.set_words(&kept).unwrap();
+            }
+            Err(refusal) => assert_eq!(refusal, Refusal::RECORD),
+        }
+        assert_eq!(console.words(), kept);
+    }
+    // a position of each event, and a position and a count of each cue, that are not there
+    assert_eq!(accepted, (64 - 5) + 2 * (4 - 1));
+}
+
+#[test]
+fn zero_words_are_a_session_in_silence() {
+    let mut opened = Console::open(PIANO).unwrap();
+    let cells = opened.work().len();
+    let mut zeros = Console::restore(PIANO, &[0; WORDS], &vec![0.0; cells]).unwrap();
+    for console in [&mut opened, &mut zeros] {
+        console.insert(10, STRIKE).unwrap();
+    }
+    assert_eq!(play(&mut opened, 2_000), play(&mut zeros, 2_000));
+
+    // with a work memory that is not silent they are not the session that was opened
+    let mut loud = Console::restore(PIANO, &[0; WORDS], &vec![0.5; cells]).unwrap();
+    assert!(play(&mut loud, 100).unwrap().samples.iter().any(|x| *x != 0));
+}
+
+#[test]
+fn what_is_restored_is_tested() {
+    let mut console = rehearsed();
+    let (words, work) = (console.words().to_vec(), console.work().to_vec());
+    let restored = |file: &[u8], words: &[u64], work: &[f64]| Console::restore(file, words, work).map(|_| ());
+    assert_eq!(restored(&PIANO[1..], &words, &work), Err(Refusal::TABLE));
+    assert_eq!(restored(PIANO, &words, &work[1..]), Err(Refusal::WORK));
+    assert_eq!(restored(PIANO, &words, &[&work[..], &[0.0]].concat()), Err(Refusal::WORK));
+    // a hammer flies on the sixth key: no session of an instrument with one key
+    assert_eq!((words[NOW + 49], words[NOW + 50]), (1, 5));
+    assert_eq!(restored(&instrument(&LEAST), &words, &work), Err(Refusal::RECORD));
+    let mut later = words.clone();
+    later[T] = 2_000_000_001;
+    assert_eq!(restored(PIANO, &later, &work), Err(Refusal::RECORD));
+
+    let mut again = Console::restore(PIANO, &words, &work).unwrap();
+    assert_eq!(play(&mut again, 3_000), play(&mut console, 3_000));
+    assert_eq!(again.go(900), Ok(0));
+    console.go(900).unwrap();
+    assert_eq!(play(&mut again, 3_000), play(&mut console, 3_000));
+}
+
+/// In place, without memory of its own.
+#[test]
+fn words_and_work_memory_are_put_back() {
+    let mut console = rehearsed();
+    let (words, work) = (console.words().to_vec(), console.work().to_vec());
+    let first = play(&mut console, 2_500).unwrap();
+    console.insert(10, STRIKE).unwrap();
+    console.set_words(&words).unwrap();
+    console.work_mut().copy_from_slice(&work);
+    assert_eq!(play(&mut console, 2_500).unwrap(), first);
+}
+
+#[test]
+fn a_clone_is_a_session_of_its_own() {
+    let mut console = rehearsed();
+    let mut other = console.clone();
+    other.insert(1_100, Event::NoteOn { key: 72, velocity: 4.0 }).unwrap();
+    let (first, second) = (play(&mut console, 2_000).unwrap(), play(&mut other, 2_000).unwrap());
+    assert_eq!(first.samples[..50], second.samples[..50]);
+    assert_ne!(first.samples, second.samples);
+    assert_eq!((console.event_count(), other.event_count()), (5, 6));
+}
+
+#[test]
+fn the_decimator_refuses_by_number() {
+    let (x, taps) = ([1.0; 1_000], [0.25; 127]);
+    assert_eq!(decimate(&x, &taps, 65), Err(Refusal::FACTOR));
+    assert_eq!(decimate(&vec![0.0; 1_048_577], &taps, 2), Err(Refusal::FACTOR));
+    assert_eq!(decimate(&x, &taps[1..], 2), Err(Refusal::TAPS));
+    let mut out = [9.0; 333];
+    assert_eq!(decimated_length(1_000, 3), 334);
+    assert_eq!(decimate_into(&x, &taps, 3, &mut out), Err(Refusal::OUTPUT));
+    assert_eq!(out, [9.0; 333]);
+    assert_eq!(decimate(&x, &taps, 1).unwrap(), x);
+    assert_eq!(decimate(&x, &taps, 3).unwrap()[100], 127.0 * 0.25);
+}
