@@ -7,9 +7,9 @@
    A host sees to three things.
 
    Floats   rounded to nearest, and subnormal numbers neither flushed to zero nor taken as zeros: audio hosts often set that.
-            Otherwise samples, forces and counts are not the proved ones. At the start of a thread, or around the calls:
-            fesetround(FE_TONEAREST) of <fenv.h>, _MM_SET_FLUSH_ZERO_MODE(_MM_FLUSH_ZERO_OFF) of <xmmintrin.h> and
-            _MM_SET_DENORMALS_ZERO_MODE(_MM_DENORMALS_ZERO_OFF) of <pmmintrin.h>. The library does not set them itself.
+            Otherwise samples, forces and counts are not the proved ones. The library does not set it itself. At the start of
+            a thread, or around the calls: _mm_setcsr(0x1f80) of <xmmintrin.h>; or one by one fesetround(FE_TONEAREST),
+            _MM_SET_FLUSH_ZERO_MODE(_MM_FLUSH_ZERO_OFF) and _MM_SET_DENORMALS_ZERO_MODE(_MM_DENORMALS_ZERO_OFF).
    Stack    GINGERFILE_STACK bytes below the frame that a call is made in. The most that was measured is 45,320, of insert;
             embed/c/stack.c measures each call, and makes each with exactly the promised stack.
    Threads  any number of them may make calls at the same time, each on its own words, work, scratch, output and trace; the

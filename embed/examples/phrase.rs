@@ -1,5 +1,5 @@
 //! A phrase with a cue, a step back and an edit: `phrase INSTRUMENT OUT.wav`, in this folder
-//! `cargo run --example phrase -- piano phrase.wav`. It plays an instrument that has the keys 48 to 72 of `piano`.
+//! `cargo run --example phrase -- piano ../target/phrase.wav`. It plays an instrument that has the keys 48 to 72 of `piano`.
 
 use gingerfile::{decimate, Console, Event, Refusal};
 use std::error::Error;

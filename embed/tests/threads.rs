@@ -20,7 +20,8 @@ fn rehearse(file: &[u8], key: u8) -> Result<[Played; 2], Refusal> {
     console.remove(1)?;
     console.energies()?;
     let mut console = Console::restore(file, console.words(), console.work())?;
-    console.set_words(&console.words().to_vec())?;
+    let words = console.words().to_vec();
+    console.set_words(&words)?;
     let second = play(&mut console.clone(), 300)?;
     decimate(&[1.0; 300], &[1.0; 127], 2)?;
     Ok([first, second])
