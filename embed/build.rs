@@ -22,8 +22,13 @@ fn folder() -> (PathBuf, bool) {
 fn main() {
     println!("cargo:rerun-if-env-changed=GINGERFILE_LIB_DIR");
     println!("cargo:rerun-if-changed=build.rs");
-    if env::var("CARGO_CFG_TARGET_ARCH").as_deref() != Ok("x86_64") {
-        fail("libgingerfile.a is machine code for x86-64, and the target is another");
+    let target = |what: &str| env::var(format!("CARGO_CFG_TARGET_{}", what)).unwrap_or_default();
+    if target("ARCH") != "x86_64"
+        || target("POINTER_WIDTH") != "64"
+        || target("FAMILY") != "unix"
+        || target("VENDOR") == "apple"
+    {
+        fail("libgingerfile.a is made for x86-64 and ELF, as on Linux, and the target is another");
     }
     let (folder, named) = folder();
     let archive = folder.join("libgingerfile.a");

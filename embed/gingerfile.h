@@ -10,10 +10,13 @@
             Otherwise samples, forces and counts are not the proved ones. The library does not set it itself. At the start of
             a thread, or around the calls: _mm_setcsr(0x1f80) of <xmmintrin.h>; or one by one fesetround(FE_TONEAREST),
             _MM_SET_FLUSH_ZERO_MODE(_MM_FLUSH_ZERO_OFF) and _MM_SET_DENORMALS_ZERO_MODE(_MM_DENORMALS_ZERO_OFF).
-   Stack    GINGERFILE_STACK bytes below the frame that a call is made in. The most that was measured is 45,320, of insert;
-            embed/c/stack.c measures each call, and makes each with exactly the promised stack.
+   Stack    GINGERFILE_STACK bytes below the frame that a call is made in: the most that was measured, rounded up to whole pages.
+            Measured were read 17,992, open 21,448, energies 38,280, remove 39,944, cue 41,736, play 41,992, go 42,200,
+            insert 45,320, decimate 88. embed/c/stack.c measures them, and makes each call with exactly the promised stack.
    Threads  any number of them may make calls at the same time, each on its own words, work, scratch, output and trace; the
             instrument's file is only read and may be shared. A call allocates nothing, takes no lock and makes no system call.
+
+   Refusals, of which a call tests those that concern it in this order:
 
     1 to 6  the file: table, chain, lengths, fields, over 32 strings, a key twice
     7       the words are no session's on this instrument, or an event's numbers no event's

@@ -220,6 +220,27 @@ impl Console {
     /// To position p, from the nearest below it of 0, the kept cues and the position now; gives the number of samples that
     /// were replayed.
     ///
+    /// ```
+    /// # fn main() -> Result<(), gingerfile::Refusal> {
+    /// # use gingerfile::{Console, Event};
+    /// # let mut console = Console::open(&std::fs::read("piano").unwrap())?;
+    /// # console.insert(1_000, Event::NoteOn { key: 60, velocity: 3.0 })?;
+    /// # let (mut out, mut trace) = ([0.0; 1_000], [0.0; 1_000]);
+    /// console.play(&mut out, &mut trace)?;
+    /// console.cue()?;
+    /// console.play(&mut out, &mut trace)?;
+    /// let count = console.contact_samples();
+    ///
+    /// // back behind the strike, and the count with it; nothing is replayed
+    /// assert_eq!(console.go(1_000)?, 0);
+    /// assert_eq!(console.contact_samples(), 0);
+    /// console.play(&mut out, &mut trace)?;
+    /// assert_eq!(console.contact_samples(), count);
+    /// # assert!(count > 0);
+    /// # Ok(())
+    /// # }
+    /// ```
+    ///
     /// # Errors
     ///
     /// [`PAST_END`](Refusal::PAST_END) and [`REPLAY`](Refusal::REPLAY).
