@@ -136,6 +136,10 @@ impl Console {
     /// # Errors
     ///
     /// 1 to 6, [`TABLE`](Refusal::TABLE) to [`KEY_TWICE`](Refusal::KEY_TWICE), for a file that is no instrument's.
+    ///
+    /// # Panics
+    ///
+    /// Where the library that was linked has sessions of another number of words than this wrapper.
     pub fn open(file: &[u8]) -> Result<Console, Refusal> {
         let sizes = sizes_of(file)?;
         let mut console = Console {
@@ -177,6 +181,10 @@ impl Console {
     ///
     /// 1 to 6 for the file; [`RECORD`](Refusal::RECORD) where the words are not 541 or no session's on this instrument;
     /// [`WORK`](Refusal::WORK) where the work memory has another length than the instrument's.
+    ///
+    /// # Panics
+    ///
+    /// As [`open`](Console::open).
     pub fn restore(file: &[u8], words: &[u64], work: &[f64]) -> Result<Console, Refusal> {
         let sizes = sizes_of(file)?;
         energies_of(file, words, work)?;

@@ -41,7 +41,7 @@ fn a_refusal_has_the_words_of_the_program() {
         Refusal::TAPS,
         Refusal::OUTPUT,
     ];
-    assert_eq!(words.len(), 17, "the first row is for a number that is none");
+    assert!(words.len() >= 17, "a row for each number to 16, the first for any other");
     for (number, refusal) in (1..).zip(refusals) {
         assert_eq!(refusal.number(), number);
         assert_eq!(refusal.to_string(), format!("refused {number}: {}", refusal.meaning()));
