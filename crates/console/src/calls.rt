@@ -1,5 +1,6 @@
 // A script's calls of the session, each with as much memory as is lent.
 use crate::Console;
+use crate::LONGEST;
 use crate::Response;
 use crate::Turn;
 use crate::called;
@@ -8,7 +9,9 @@ use crate::replied;
 use instrument::Instrument;
 use score::Event;
 use score::TimedEvent;
+use score_edits::END;
 use session::Answer;
+use std::num::wrapping_add_u64;
 use text::script::Command;
 use text::script::Fault;
 use text::script::Kind;
@@ -50,6 +53,29 @@ fn play_into(
     played(called(lent, outcome), answer, out.len())
 }
 
+// The first part of a play that the output does not hold whole. What the whole is refused for comes first: a trace that is shorter than the whole, and the end, which a go to where the
+// play would end meets too; neither changes anything.
+fn play_part(
+    instrument: Instrument,
+    console: Console,
+    m: u64,
+    work: &mut [f64],
+    scratch: &mut [f64],
+    out: &mut [f64],
+    trace: &mut [f64],
+) -> Turn {
+    let lent = console.lent;
+    let session = console.session;
+    if (lent.trace as u64) < m {
+        return play_into(instrument, console, work, scratch, out, &mut trace[..0]);
+    }
+    let end = wrapping_add_u64(session.t, m);
+    if END < end {
+        return go(instrument, console, end, work, scratch);
+    }
+    play_into(instrument, console, work, scratch, out, trace)
+}
+
 fn play(
     instrument: Instrument,
     console: Console,
@@ -59,8 +85,11 @@ fn play(
     out: &mut [f64],
     trace: &mut [f64],
 ) -> Turn {
-    if (out.len() as u64) < m {
+    if LONGEST < m {
         return replied(console, Response::Bad(Fault::TooLarge));
+    }
+    if (out.len() as u64) < m {
+        return play_part(instrument, console, m, work, scratch, out, trace);
     }
     let lent = console.lent;
     let n = fitting(m as usize, out);

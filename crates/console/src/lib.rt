@@ -6,6 +6,7 @@ ghost use lib.ListN.{length, take};
 mod calls;
 mod cue_list;
 mod energy_list;
+pub mod parts;
 mod replies;
 mod words;
 
@@ -19,7 +20,10 @@ use text::script::Command;
 use text::script::Fault;
 use text::script::Kind;
 
-// How many cells of each buffer a call gets.
+// The longest play, and the trace that a script can have lent.
+pub const LONGEST: u64 = 65536;
+
+// How many cells of each buffer a call gets. A trace of more cells than the program has is lent as all that it has: no part of a play is longer.
 pub struct Lent {
     pub scratch: usize,
     pub trace: usize,
@@ -81,10 +85,10 @@ fn scratch_cells(instrument: Instrument) -> usize {
 }
 
 // At the start: 6S scratch cells, all of the trace, all of the work memory.
-pub fn open(instrument: Instrument, work: &mut [f64], trace: &[f64]) -> Turn {
+pub fn open(instrument: Instrument, work: &mut [f64]) -> Turn {
     let lent = Lent {
         scratch: scratch_cells(instrument),
-        trace: trace.len(),
+        trace: 65536,
         work: work.len(),
     };
     called(lent, session::open(instrument, work))
@@ -125,8 +129,8 @@ fn lent_with(lent: Lent, kind: Kind, n: usize) -> Lent {
 }
 
 // A buffer of `cells` cells lends no more.
-fn lend(console: Console, kind: Kind, n: u64, cells: usize) -> Turn {
-    if (cells as u64) < n {
+fn lend(console: Console, kind: Kind, n: u64, cells: u64) -> Turn {
+    if cells < n {
         return replied(console, Response::Bad(Fault::TooLarge));
     }
     let session = console.session;
@@ -150,9 +154,9 @@ pub fn answer(
         Kind::Bad(fault) => replied(console, Response::Bad(fault)),
         Kind::Energies => replied(console, Response::Energies),
         Kind::State => replied(console, Response::State),
-        Kind::LendScratch => lend(console, kind, command.number, scratch.len()),
-        Kind::LendTrace => lend(console, kind, command.number, trace.len()),
-        Kind::LendWork => lend(console, kind, command.number, work.len()),
+        Kind::LendScratch => lend(console, kind, command.number, scratch.len() as u64),
+        Kind::LendTrace => lend(console, kind, command.number, LONGEST),
+        Kind::LendWork => lend(console, kind, command.number, work.len() as u64),
         _ => calls::call(instrument, console, command, work, scratch, out, trace),
     }
 }

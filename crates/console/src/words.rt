@@ -33,15 +33,18 @@ pub fn put_refusal(line: &mut [u8], at: usize, number: u64) -> usize {
 fn row_of(fault: Fault) -> u64 {
     match fault {
         Fault::UnknownCommand => 0,
-        Fault::UnknownEvent => 1,
-        Fault::UnknownBuffer => 2,
-        Fault::WrongWords => 3,
-        Fault::NoNumber => 4,
-        Fault::NoKey => 5,
-        Fault::NoVelocity => 6,
-        Fault::NoDirection => 7,
-        Fault::TooLarge => 8,
-        Fault::LineTooLong => 9,
+        Fault::ByteOrderMark => 1,
+        Fault::UnknownEvent => 2,
+        Fault::NoEvent => 3,
+        Fault::UnknownBuffer => 4,
+        Fault::WrongWords => 5,
+        Fault::NoNumber => 6,
+        Fault::NoKey => 7,
+        Fault::NoVelocity => 8,
+        Fault::NoDirection => 9,
+        Fault::TooLarge => 10,
+        Fault::LineTooLong => 11,
+        Fault::WaveFull => 12,
     }
 }
 
@@ -51,7 +54,9 @@ pub fn put_fault(line: &mut [u8], at: usize, fault: Fault) -> usize {
         at,
         b"\
             : there is no such call\n\
+            : it begins with a byte order mark: a script is plain text\n\
             : an event is on, off, pedal or hand\n\
+            : insert wants a position and an event, as `insert 0 on 60 3`\n\
             : what is lent is scratch, trace or work\n\
             : too few words, or too many\n\
             : a whole number of 64 bits is wanted\n\
@@ -59,7 +64,8 @@ pub fn put_fault(line: &mut [u8], at: usize, fault: Fault) -> usize {
             : a velocity is a decimal of at most 15 digits, or 0x and 16 hexadecimal digits\n\
             : a pedal goes down or up\n\
             : the number is larger than the program's memory\n\
-            : the line is longer than 65535 bytes\n",
+            : the line is longer than 65535 bytes\n\
+            : the WAV would pass 4 GiB, which its header cannot say\n",
         row_of(fault),
     )
 }

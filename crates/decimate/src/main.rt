@@ -1,15 +1,27 @@
 // `decimate IN.wav TAPS FACTOR OUT.wav`: every FACTOR-th sample of a mono WAV file of 64-bit floats, behind the 127 little-endian floats of TAPS. It writes one line on what it did, or to
 // standard error what is wrong with which file.
 mod blocks;
-mod input;
-mod report;
+mod wave_in;
 
 use blocks::Plan;
-use input::Wave;
-use report::complain;
-use report::say;
-use report::say_number;
+use blocks::Thinned;
+use file_status::FileStatus;
+use program::arguments;
+use program::arguments::Arguments;
+use program::arguments::DONE;
+use program::arguments::WRONG;
+use program::input;
+use program::input::Input;
+use program::message::complain;
+use program::message::complain_of;
+use program::output;
+use program::output::InUse;
+use program::output::Output;
+use program::streams;
+use program::wave;
 use text::Number;
+use text::put_counted;
+use wave_in::Signal;
 
 enum Factor {
     Of(usize),
@@ -39,107 +51,182 @@ fn thinned_rate(rate: u64, factor: u64) -> u64 {
     std::num::wrapping_add_u64(rate, factor / 2) / factor
 }
 
-fn summarise(count: u64, rate: u64, factor: u64, outputs: u64) {
-    say_number(b"", count);
-    say_number(b" samples at ", rate);
-    say_number(b" Hz, factor ", factor);
-    say_number(b": ", outputs);
-    say_number(b" samples at ", thinned_rate(rate, factor));
-    say(b" Hz\n");
+// One line on standard output; false where it cannot be written.
+fn summarise(count: u64, rate: u64, factor: u64, outputs: u64) -> bool {
+    let mut line = [0u8; 256];
+    let a = put_counted(&mut line, 0, b"", count);
+    let b = put_counted(&mut line, a, b" samples at ", rate);
+    let c = put_counted(&mut line, b, b" Hz, factor ", factor);
+    let d = put_counted(&mut line, c, b": ", outputs);
+    let e = put_counted(&mut line, d, b" samples at ", thinned_rate(rate, factor));
+    let end = text::put(&mut line, e, b" Hz\n");
+    io::write_all(libc::STDOUT_FILENO, little_endian::part(&line, 0, end))
 }
 
-// What was written, or what is wrong with it.
-fn summarise_wave(output: &[u8], plan: Plan, rate: u64, begun: bool, done: bool) {
-    if !begun {
-        complain(output, b"cannot be written");
-        return;
+// What was written, or what is wrong, and the status.
+fn report(input: &[u8], output: &[u8], plan: Plan, rate: u64, thinned: Thinned) -> u8 {
+    let wave = thinned.wave;
+    if wave.error != 0 {
+        complain_of(b"decimate", output, wave.error);
+        return WRONG;
     }
-    if !done {
-        complain(output, b"could not be finished: a read or a write failed");
-        return;
+    if !thinned.is_read {
+        complain(b"decimate", input, b"it could not be read to its end");
+        return WRONG;
     }
-    summarise(
+    if summarise(
         plan.count as u64,
         rate,
         plan.factor as u64,
         plan.outputs as u64,
-    );
+    ) {
+        return DONE;
+    }
+    complain_of(b"decimate", b"standard output", os::errno());
+    WRONG
 }
 
-fn write_plan(plan: Plan, rate: u64, taps: &[f64; 127], output: &[u8]) {
-    let header = wav::header(thinned_rate(rate, plan.factor as u64), plan.outputs as u64);
-    let begun = io::write_all(plan.target, &header);
-    let done = blocks::write_all(plan, taps);
-    libc::close(plan.target);
-    summarise_wave(output, plan, rate, begun, done);
+fn write_plan(
+    plan: Plan,
+    rate: u64,
+    taps: &[f64; 127],
+    out: Output,
+    input: &[u8],
+    output: &[u8],
+) -> u8 {
+    let begun = wave::begin(out, thinned_rate(rate, plan.factor as u64));
+    let thinned = blocks::append_all(begun, plan, taps);
+    libc::close(out.fd);
+    report(input, output, plan, rate, thinned)
+}
+
+fn is_free(output: &[u8], used: InUse) -> bool {
+    output::is_apart(
+        b"decimate",
+        output,
+        used,
+        b"\
+            it is the input, and an output may not be an input\n\
+            it is the taps, and an output may not be an input\n\
+            it is where the report goes, and two outputs may not be one file\n\
+            it is where messages go, and two outputs may not be one file\n",
+    )
 }
 
 // Writes OUT once all that it is made of is known to be there.
-fn write_wave(source: i32, wave: Wave, taps: &[f64; 127], factor: usize, output: &[u8]) {
-    let target = os::open_overwrite(output);
-    if target < 0 {
-        os::fail(output);
-        return;
+fn write_wave(
+    source: Input,
+    signal: Signal,
+    tap_file: FileStatus,
+    taps: &[f64; 127],
+    factor: usize,
+    input: &[u8],
+    output: &[u8],
+) -> u8 {
+    let used = output::in_use(source.file, tap_file);
+    if !is_free(output, used) {
+        return WRONG;
+    }
+    let out = output::open(b"decimate", output);
+    if out.fd < 0 {
+        return WRONG;
     }
     let plan = Plan {
-        source,
-        target,
-        start: wave.start,
-        count: wave.count,
+        source: source.fd,
+        start: signal.start,
+        count: signal.count,
         factor,
-        outputs: decimator::output_length(wave.count, factor),
+        outputs: decimator::output_length(signal.count, factor),
     };
-    write_plan(plan, wave.rate, taps, output);
+    write_plan(plan, signal.rate, taps, out, input, output)
 }
 
-fn run(input: &[u8], tap_path: &[u8], factor: usize, output: &[u8]) {
-    if check::same(input, output) {
-        complain(output, b"it is the input");
-        return;
+fn run(input: &[u8], tap_path: &[u8], factor: usize, output: &[u8]) -> u8 {
+    let source = input::open(b"decimate", input);
+    if source.fd < 0 {
+        return WRONG;
     }
-    let source = os::open_read(input);
-    if source < 0 {
-        os::fail(input);
-        return;
+    let signal = wave_in::find_samples(source.fd, input);
+    if !signal.found {
+        return WRONG;
     }
-    let wave = input::find_samples(source, input);
     let mut taps = [0.0; 127];
-    if wave.found {
-        if input::read_taps(tap_path, &mut taps) {
-            write_wave(source, wave, &taps, factor, output);
-        }
+    let tap_source = wave_in::read_taps(tap_path, &mut taps);
+    if tap_source.fd < 0 {
+        return WRONG;
     }
-    libc::close(source);
+    write_wave(
+        source,
+        signal,
+        tap_source.file,
+        &taps,
+        factor,
+        input,
+        output,
+    )
 }
 
-fn run_on_taps(input: &[u8], factor: usize, output: &[u8]) {
-    let mut taps = io::buffer();
-    let n = os::arg(2, &mut taps);
-    run(input, &taps[..n], factor, output);
+fn run_into(given: Arguments, input: &[u8], taps: &[u8], factor: usize) -> u8 {
+    let mut output = io::buffer();
+    let n = arguments::path_at(b"decimate", given, 3, b"OUT.wav", &mut output);
+    if n == 0 {
+        return WRONG;
+    }
+    run(input, taps, factor, &output[..n])
 }
 
-fn run_by_factor(input: &[u8], output: &[u8]) {
+fn run_by_factor(given: Arguments, input: &[u8], taps: &[u8]) -> u8 {
     let mut word = io::buffer();
-    let n = os::arg(3, &mut word);
+    let n = arguments::path_at(b"decimate", given, 2, b"FACTOR", &mut word);
     let factor = factor_of(&word[..n]);
     match factor {
-        Factor::Of(k) => run_on_taps(input, k, output),
-        Factor::TooHigh => complain(&word[..n], b"refused 17: the factor exceeds 64"),
-        Factor::NoNumber => complain(&word[..n], b"the factor is no whole number"),
+        Factor::Of(k) => run_into(given, input, taps, k),
+        Factor::TooHigh => {
+            complain(
+                b"decimate",
+                &word[..n],
+                b"refused 17: the factor exceeds 64",
+            );
+            WRONG
+        }
+        Factor::NoNumber => {
+            complain(b"decimate", &word[..n], b"the factor is no whole number");
+            WRONG
+        }
     }
 }
 
-fn main() {
-    if os::arg_count() != 5 {
+fn run_on_taps(given: Arguments, input: &[u8]) -> u8 {
+    let mut taps = io::buffer();
+    let n = arguments::path_at(b"decimate", given, 1, b"TAPS", &mut taps);
+    if n == 0 {
+        return WRONG;
+    }
+    run_by_factor(given, input, &taps[..n])
+}
+
+fn run_on_files(given: Arguments) -> u8 {
+    if given.count != 4 {
         io::write_all(
             libc::STDERR_FILENO,
             b"usage: decimate IN.wav TAPS FACTOR OUT.wav\n",
         );
-        return;
+        return WRONG;
     }
     let mut input = io::buffer();
-    let n = os::arg(1, &mut input);
-    let mut output = io::buffer();
-    let m = os::arg(4, &mut output);
-    run_by_factor(&input[..n], &output[..m]);
+    let n = arguments::path_at(b"decimate", given, 0, b"IN.wav", &mut input);
+    if n == 0 {
+        return WRONG;
+    }
+    run_on_taps(given, &input[..n])
+}
+
+fn main() {
+    let given = arguments::given();
+    let status = if streams::are_open(b"decimate") {
+        run_on_files(given)
+    } else {
+        WRONG
+    };
+    arguments::end(given, status);
 }

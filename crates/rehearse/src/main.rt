@@ -1,154 +1,205 @@
 // `rehearse [INSTRUMENT SCRIPT OUT.wav [FORCES]]`: plays a script's calls on an instrument, answers each by a line, and writes what was played. All that matters is in the
 // library; this holds the memory that it lends, and the files.
-mod files;
-mod output;
+mod answers;
+mod loading;
+mod places;
 mod progress;
 mod rehearsal;
 
-use files::Places;
 use instrument::Instrument;
 use libc::STDERR_FILENO;
+use places::Places;
+use program::arguments;
+use program::arguments::Arguments;
+use program::arguments::DONE;
+use program::arguments::WRONG;
+use program::message::complain_at;
+use program::message::complain_of;
+use program::output;
+use program::streams;
+use program::wave::Wave;
+use progress::Ending;
+use progress::Progress;
 use text::lines;
 use text::lines::Reader;
 
-// Plays the whole script and writes its files' last bytes. A failure is told by what failed.
-fn rehearse(
+// What failed, by its name, and the status that it gives.
+fn tell(p: Progress, script: &[u8], wav: &[u8], forces: &[u8]) -> u8 {
+    let ending = p.ending;
+    match ending {
+        Ending::GoesOn => DONE,
+        Ending::Finished => DONE,
+        Ending::ScriptFailed(error) => {
+            complain_at(b"rehearse", script, p.line, error);
+            WRONG
+        }
+        Ending::AnswersFailed(error) => {
+            complain_of(b"rehearse", b"standard output", error);
+            WRONG
+        }
+        Ending::WaveFailed(error) => {
+            complain_of(b"rehearse", wav, error);
+            WRONG
+        }
+        Ending::ForcesFailed(error) => {
+            complain_of(b"rehearse", forces, error);
+            WRONG
+        }
+    }
+}
+
+// The WAV before it is begun.
+fn wave_of(instrument: Instrument, places: Places) -> Wave {
+    let common = instrument.common;
+    let out = places.wave;
+    Wave {
+        out,
+        rate: float::round_away(common.fs),
+        samples: 0,
+        error: 0,
+    }
+}
+
+// ---- what the program has inside
+
+fn rehearse_phrase(instrument: Instrument, places: Places) -> u8 {
+    let mut input = io::large_buffer();
+    let k = embedded::put_script(&mut input);
+    let begun = progress::begun(lines::from_bytes(k), true, wave_of(instrument, places));
+    let last = rehearsal::play_script(instrument, begun, places, &mut input);
+    places::close_places(places);
+    tell(last, b"the script", b"rehearsal.wav", b"")
+}
+
+// No file is read, so only answers and messages are in use.
+fn rehearse_embedded() -> u8 {
+    let mut file = [0u8; 2048];
+    let n = embedded::put_instrument(&mut file);
+    let nothing = file_status::status_of(-1);
+    let loaded = loading::accept(little_endian::part(&file, 0, n), b"the instrument", nothing);
+    if loaded.status != DONE {
+        return loaded.status;
+    }
+    let used = output::in_use(nothing, nothing);
+    let places = places::open_places(b"rehearsal.wav", b"", false, used);
+    if !places.are_open {
+        return WRONG;
+    }
+    rehearse_phrase(loaded.instrument, places)
+}
+
+// ---- the files that are named
+
+fn rehearse_script(
     instrument: Instrument,
     reader: Reader,
     places: Places,
     script: &[u8],
     wav: &[u8],
     forces: &[u8],
-    input: &mut [u8; 65536],
-) {
-    let common = instrument.common;
-    let rate = float::round_away(common.fs);
-    if !files::write_header(places.wav, rate, 0) {
-        files::fail(wav);
-        return;
-    }
-    libc::lseek(places.wav, 58, libc::SEEK_SET);
-    let played = rehearsal::play_script(instrument, reader, places, input);
-    let ending = played.ending;
-    progress::tell(ending, script, wav, forces);
-    if !files::write_header(places.wav, rate, played.samples) {
-        files::fail(wav);
-    }
-    files::close_places(places);
-}
-
-// ---- what the program has inside
-
-fn rehearse_phrase(instrument: Instrument) {
-    let places = files::open_places(b"rehearsal.wav", b"", false);
-    if !places.are_open {
-        return;
-    }
+) -> u8 {
     let mut input = io::large_buffer();
-    let k = embedded::put_script(&mut input);
-    rehearse(
-        instrument,
-        lines::from_bytes(k),
-        places,
-        b"the script",
-        b"rehearsal.wav",
-        b"",
-        &mut input,
-    );
+    let begun = progress::begun(reader, false, wave_of(instrument, places));
+    let last = rehearsal::play_script(instrument, begun, places, &mut input);
+    places::close_places(places);
+    if places::is_standard_input(script) {
+        return tell(last, b"standard input", wav, forces);
+    }
+    tell(last, script, wav, forces)
 }
 
-fn rehearse_embedded() {
-    let mut file = [0u8; 2048];
-    let n = output::count(embedded::put_instrument(&mut file), &file);
-    let loaded = files::accept(&file[..n]);
-    if loaded.is_accepted {
-        rehearse_phrase(loaded.instrument);
+// The inputs are opened first, then what is written.
+fn rehearse_on(
+    instrument: &[u8],
+    script: &[u8],
+    wav: &[u8],
+    forces: &[u8],
+    has_forces: bool,
+) -> u8 {
+    let loaded = loading::load(instrument);
+    if loaded.status != DONE {
+        return loaded.status;
     }
-}
-
-// ---- the files that are named
-
-// The script is opened first, then what is written.
-fn rehearse_on(instrument: Instrument, script: &[u8], wav: &[u8], forces: &[u8], has_forces: bool) {
-    let from = files::open_script(script);
-    if from < 0 {
-        return;
+    let source = places::open_script(script);
+    if source.fd < 0 {
+        return WRONG;
     }
-    let places = files::open_places(wav, forces, has_forces);
+    let used = output::in_use(loaded.file, source.file);
+    let places = places::open_places(wav, forces, has_forces, used);
     if !places.are_open {
-        return;
+        return WRONG;
     }
-    let mut input = io::large_buffer();
-    rehearse(
-        instrument,
-        lines::from_file(from),
+    rehearse_script(
+        loaded.instrument,
+        lines::from_file(source.fd),
         places,
         script,
         wav,
         forces,
-        &mut input,
-    );
+    )
 }
 
-fn rehearse_with_forces(instrument: Instrument, script: &[u8], wav: &[u8]) {
+fn rehearse_with_forces(given: Arguments, instrument: &[u8], script: &[u8], wav: &[u8]) -> u8 {
     let mut forces = io::buffer();
-    let n = os::arg(4, &mut forces);
-    if os::errno() != 0 {
-        files::fail(b"FORCES");
-        return;
+    let n = arguments::path_at(b"rehearse", given, 3, b"FORCES", &mut forces);
+    if n == 0 {
+        return WRONG;
     }
-    rehearse_on(instrument, script, wav, &forces[..n], true);
+    rehearse_on(instrument, script, wav, &forces[..n], true)
 }
 
-fn rehearse_into(instrument: Instrument, script: &[u8], has_forces: bool) {
+fn rehearse_into(given: Arguments, instrument: &[u8], script: &[u8]) -> u8 {
     let mut wav = io::buffer();
-    let n = os::arg(3, &mut wav);
-    if os::errno() != 0 {
-        files::fail(b"OUT.wav");
-        return;
+    let n = arguments::path_at(b"rehearse", given, 2, b"OUT.wav", &mut wav);
+    if n == 0 {
+        return WRONG;
     }
-    if has_forces {
-        rehearse_with_forces(instrument, script, &wav[..n]);
-    } else {
-        rehearse_on(instrument, script, &wav[..n], b"", false);
+    if given.count == 4 {
+        return rehearse_with_forces(given, instrument, script, &wav[..n]);
     }
+    rehearse_on(instrument, script, &wav[..n], b"", false)
 }
 
-fn rehearse_script(instrument: Instrument, has_forces: bool) {
+fn rehearse_with_script(given: Arguments, instrument: &[u8]) -> u8 {
     let mut script = io::buffer();
-    let n = os::arg(2, &mut script);
-    if os::errno() != 0 {
-        files::fail(b"SCRIPT");
-        return;
+    let n = arguments::path_at(b"rehearse", given, 1, b"SCRIPT", &mut script);
+    if n == 0 {
+        return WRONG;
     }
-    rehearse_into(instrument, &script[..n], has_forces);
+    rehearse_into(given, instrument, &script[..n])
 }
 
-fn rehearse_files(has_forces: bool) {
-    let mut path = io::buffer();
-    let n = os::arg(1, &mut path);
-    if os::errno() != 0 {
-        files::fail(b"INSTRUMENT");
-        return;
+fn rehearse_files(given: Arguments) -> u8 {
+    let mut instrument = io::buffer();
+    let n = arguments::path_at(b"rehearse", given, 0, b"INSTRUMENT", &mut instrument);
+    if n == 0 {
+        return WRONG;
     }
-    let loaded = files::load_instrument(&path[..n]);
-    if loaded.is_accepted {
-        rehearse_script(loaded.instrument, has_forces);
+    rehearse_with_script(given, &instrument[..n])
+}
+
+// ---- the command line
+
+fn run(given: Arguments) -> u8 {
+    if given.count == 0 {
+        return rehearse_embedded();
     }
+    if (given.count == 3) | (given.count == 4) {
+        return rehearse_files(given);
+    }
+    io::write_all(
+        STDERR_FILENO,
+        b"usage: rehearse [INSTRUMENT SCRIPT OUT.wav [FORCES]]\n",
+    );
+    WRONG
 }
 
 fn main() {
-    let words = os::arg_count();
-    if words == 1 {
-        rehearse_embedded();
-    } else if words == 4 {
-        rehearse_files(false);
-    } else if words == 5 {
-        rehearse_files(true);
+    let given = arguments::given();
+    let status = if streams::are_open(b"rehearse") {
+        run(given)
     } else {
-        io::write_all(
-            STDERR_FILENO,
-            b"usage: rehearse [INSTRUMENT SCRIPT OUT.wav [FORCES]]\n",
-        );
-    }
+        WRONG
+    };
+    arguments::end(given, status);
 }

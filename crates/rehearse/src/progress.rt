@@ -1,79 +1,116 @@
-// How far the rehearsal is: the script's lines, the answers on their way out, and signs of life.
-use crate::files::fail;
-use crate::output;
-use crate::output::Output;
+// How far the rehearsal is: the script's lines, the answers on their way out, the samples written, and signs of life.
+use crate::answers;
+use crate::answers::Answers;
 use libc::STDERR_FILENO;
-use libc::STDOUT_FILENO;
+use program::wave::Wave;
 use std::num::wrapping_add_u64;
 use text::lines;
 use text::lines::Found;
+use text::lines::Line;
 use text::lines::Reader;
 use text::script::Command;
 
-// Whether the rehearsal goes on, and else how it ended: at the script's end, or where a read or a write failed.
+// Whether the rehearsal goes on, and else how it ended: at the script's end, or with the system's number where a read or a write failed.
 pub enum Ending {
     GoesOn,
     Finished,
-    ScriptFailed,
-    AnswersFailed,
-    WavFailed,
-    ForcesFailed,
+    ScriptFailed(i32),
+    AnswersFailed(i32),
+    WaveFailed(i32),
+    ForcesFailed(i32),
 }
 
-// `line` is the number of the script's line that comes next, `due` the time of the next sign of life.
+// `line` is the number of the script's line that comes next, `due` the time of the next sign of life. Where the script is shown, its lines stand before their answers.
 pub struct Progress {
     pub reader: Reader,
-    pub answers: Output,
+    pub is_shown: bool,
+    pub answers: Answers,
+    pub wave: Wave,
     pub line: u64,
-    pub samples: u64,
     pub due: f64,
     pub ending: Ending,
 }
 
 // No line is read yet.
-pub fn begun(reader: Reader) -> Progress {
+pub fn begun(reader: Reader, is_shown: bool, wave: Wave) -> Progress {
     Progress {
         reader,
-        answers: output::empty(STDOUT_FILENO),
+        is_shown,
+        answers: answers::none(),
+        wave,
         line: 0,
-        samples: 0,
-        due: work_time() + PATIENCE,
+        due: wall_time() + PATIENCE,
         ending: Ending::GoesOn,
     }
 }
 
+// The first ending stays.
 pub fn ended(p: Progress, ending: Ending) -> Progress {
+    let before = p.ending;
+    if !goes_on(before) {
+        return p;
+    }
     let reader = p.reader;
     let answers = p.answers;
+    let wave = p.wave;
     Progress {
         reader,
+        is_shown: p.is_shown,
         answers,
+        wave,
         line: p.line,
-        samples: p.samples,
         due: p.due,
         ending,
     }
 }
 
-// What failed, by its name.
-pub fn tell(ending: Ending, script: &[u8], wav: &[u8], forces: &[u8]) {
+pub fn goes_on(ending: Ending) -> bool {
     match ending {
-        Ending::GoesOn => {}
-        Ending::Finished => {}
-        Ending::ScriptFailed => fail(script),
-        Ending::AnswersFailed => fail(b"standard output"),
-        Ending::WavFailed => fail(wav),
-        Ending::ForcesFailed => fail(forces),
+        Ending::GoesOn => true,
+        _ => false,
     }
+}
+
+// ---- answers
+
+// Behind a write of answers: whether it failed.
+fn with_answers(p: Progress, answers: Answers) -> Progress {
+    let mut next = p;
+    next.answers = answers;
+    if answers.error == 0 {
+        return next;
+    }
+    ended(next, Ending::AnswersFailed(answers.error))
+}
+
+// All answers so far go out, as before everything that can fail or wait.
+pub fn flush(p: Progress, buffer: &[u8]) -> Progress {
+    with_answers(p, answers::flush(buffer, p.answers))
+}
+
+fn put_line(buffer: &mut [u8], answers: Answers, mark: &[u8], line: &[u8]) -> Answers {
+    if line.len() == 0 {
+        return answers;
+    }
+    let marked = answers::put(buffer, answers, mark);
+    let with_line = answers::put(buffer, marked, line);
+    answers::put(buffer, with_line, b"\n")
+}
+
+// A line of answer, behind which the script's next line comes.
+pub fn say(p: Progress, line: &[u8], buffer: &mut [u8]) -> Progress {
+    let mut next = with_answers(p, put_line(buffer, p.answers, b"", line));
+    next.line = wrapping_add_u64(p.line, 1);
+    next
 }
 
 // ---- signs of life
 
-// In microseconds of the program's own work.
-const PATIENCE: f64 = 2000000.0;
+// In seconds of the clock on the wall.
+const PATIENCE: f64 = 2.0;
 
-fn work_time() -> f64 {
-    std::num::nearest_i64_to_f64(libc::clock())
+fn wall_time() -> f64 {
+    std::num::nearest_i64_to_f64(file_status::monotonic_seconds())
 }
 
 fn show_life(line: u64, t: u64) {
@@ -84,53 +121,37 @@ fn show_life(line: u64, t: u64) {
     io::write_all(STDERR_FILENO, b"\n");
 }
 
-// Where it is due: a line on standard error, and the answers so far.
-fn live(p: Progress, t: u64, answers: &[u8]) -> Progress {
-    let time = work_time();
+// Where it is due: the answers so far, and a line on standard error.
+pub fn live(p: Progress, t: u64, buffer: &[u8]) -> Progress {
+    let time = wall_time();
     if time < p.due {
         return p;
     }
+    let mut next = flush(p, buffer);
     show_life(p.line, t);
-    let flushed = output::flush(answers, p.answers);
-    let mut next = p;
-    next.answers = flushed;
     next.due = time + PATIENCE;
-    next
-}
-
-// ---- answers
-
-fn put_line(answers: &mut [u8], out: Output, line: &[u8]) -> Output {
-    if line.len() == 0 {
-        return out;
-    }
-    let with_line = output::put(answers, out, line);
-    output::put(answers, with_line, b"\n")
-}
-
-// A line of answer, behind which the script's next line comes.
-pub fn say(p: Progress, line: &[u8], answers: &mut [u8]) -> Progress {
-    let said = put_line(answers, p.answers, line);
-    let mut next = p;
-    next.answers = said;
-    next.line = wrapping_add_u64(p.line, 1);
-    if said.is_failed {
-        return ended(next, Ending::AnswersFailed);
-    }
     next
 }
 
 // ---- the script's lines
 
-// A read may wait, so all answers are out before it.
-fn flush_waiting(p: Progress, input: &[u8], answers: &[u8]) -> Progress {
+// A read may wait or fail, so all answers are out before it.
+fn flush_waiting(p: Progress, input: &[u8], buffer: &[u8]) -> Progress {
     if !lines::is_waiting(input, p.reader) {
         return p;
     }
-    let flushed = output::flush(answers, p.answers);
-    let mut next = p;
-    next.answers = flushed;
-    next
+    flush(p, buffer)
+}
+
+// A script that is shown stands in the answers: a remark as it is, a call behind a mark.
+fn show(p: Progress, text: &[u8], buffer: &mut [u8]) -> Progress {
+    if !p.is_shown {
+        return p;
+    }
+    if little_endian::byte_at(text, 0) == b'#' {
+        return with_answers(p, put_line(buffer, p.answers, b"", text));
+    }
+    with_answers(p, put_line(buffer, p.answers, b"> ", text))
 }
 
 // The script's next line, if the rehearsal goes on.
@@ -139,31 +160,30 @@ pub struct Asked {
     pub command: Command,
 }
 
-fn ask(p: Progress, input: &mut [u8]) -> Asked {
-    let line = lines::next(input, p.reader);
-    let command = text::script::command_in(input, line);
+// The reader behind a line; a failure's number is the system's last.
+fn behind(p: Progress, line: Line) -> Progress {
     let reader = line.reader;
     let mut next = p;
     next.reader = reader;
     let found = line.found;
-    let progress = match found {
+    match found {
         Found::End => ended(next, Ending::Finished),
-        Found::Failed => ended(next, Ending::ScriptFailed),
+        Found::Failed => ended(next, Ending::ScriptFailed(os::errno())),
         _ => next,
-    };
-    Asked { progress, command }
-}
-
-pub fn goes_on(ending: Ending) -> bool {
-    match ending {
-        Ending::GoesOn => true,
-        _ => false,
     }
 }
 
+fn ask(p: Progress, input: &mut [u8], buffer: &mut [u8]) -> Asked {
+    let line = lines::next(input, p.reader);
+    let next = behind(p, line);
+    let command = text::script::command_in(input, line);
+    let progress = show(next, lines::text_of(input, line), buffer);
+    Asked { progress, command }
+}
+
 // What comes before a line is read, and the line.
-pub fn read_line(p: Progress, t: u64, input: &mut [u8], answers: &[u8]) -> Asked {
-    let lived = live(p, t, answers);
-    let flushed = flush_waiting(lived, input, answers);
-    ask(flushed, input)
+pub fn read_line(p: Progress, t: u64, input: &mut [u8], buffer: &mut [u8]) -> Asked {
+    let lived = live(p, t, buffer);
+    let flushed = flush_waiting(lived, input, buffer);
+    ask(flushed, input, buffer)
 }

@@ -1,6 +1,5 @@
 // A script's lines, one after the other: each is read, called, answered, and what it played is written.
-use crate::files::Places;
-use crate::output;
+use crate::places::Places;
 use crate::progress;
 use crate::progress::Asked;
 use crate::progress::Ending;
@@ -8,13 +7,29 @@ use crate::progress::Progress;
 use crate::progress::goes_on;
 use console::Console;
 use console::Response;
+use console::Turn;
+use console::parts;
+use console::parts::Task;
 use instrument::Instrument;
+use little_endian::part;
+use program::floats;
+use program::output;
+use program::wave;
+use program::wave::Wave;
 use std::num::wrapping_add_u64;
 use text::lines::Reader;
+use text::script::Command;
+use text::script::Fault;
+use text::script::Kind;
 
+// A play or a go of more samples goes in parts of as many.
+const PART: u64 = 8192;
+
+// What a line has come to, and what is left of it.
 pub struct Rehearsal {
     pub console: Console,
     pub progress: Progress,
+    pub task: Task,
 }
 
 fn say_reply(
@@ -26,73 +41,166 @@ fn say_reply(
     answers: &mut [u8],
 ) -> Progress {
     let mut line = [0u8; 1024];
-    let n = output::count(
-        console::put_reply(&mut line, p.line, reply, instrument, console, work),
-        &line,
-    );
-    progress::say(p, &line[..n], answers)
+    let n = console::put_reply(&mut line, p.line, reply, instrument, console, work);
+    progress::say(p, part(&line, 0, n), answers)
 }
 
-// The samples and forces of a play go into their files.
-fn write_played(
-    places: Places,
-    samples: usize,
-    forces: usize,
-    out: &[f64],
-    trace: &[f64],
-    bytes: &mut [u8],
-) -> Ending {
-    if !output::write_floats(places.wav, out, samples, bytes) {
-        return Ending::WavFailed;
+// ---- what was played
+
+fn with_wave(p: Progress, wave: Wave) -> Progress {
+    let mut next = p;
+    next.wave = wave;
+    if wave.error == 0 {
+        return next;
     }
-    if places.forces < 0 {
-        return Ending::GoesOn;
-    }
-    if !output::write_floats(places.forces, trace, forces, bytes) {
-        return Ending::ForcesFailed;
-    }
-    Ending::GoesOn
+    progress::ended(next, Ending::WaveFailed(wave.error))
 }
 
+fn store_samples(p: Progress, samples: &[f64], bytes: &mut [u8; 16384]) -> Progress {
+    with_wave(p, wave::append(p.wave, samples, bytes))
+}
+
+fn store_forces(p: Progress, places: Places, forces: &[f64], bytes: &mut [u8; 16384]) -> Progress {
+    if !places.has_forces {
+        return p;
+    }
+    let out = places.forces;
+    let written = floats::write_floats(out.fd, forces, bytes);
+    if written.error == 0 {
+        return p;
+    }
+    progress::ended(p, Ending::ForcesFailed(written.error))
+}
+
+// The samples and forces of a play go into their files; nothing does once something has failed.
 fn store(
     p: Progress,
     places: Places,
-    samples: usize,
-    forces: usize,
+    turn: Turn,
     out: &[f64],
     trace: &[f64],
-    bytes: &mut [u8],
+    bytes: &mut [u8; 16384],
 ) -> Progress {
     let ending = p.ending;
     if !goes_on(ending) {
         return p;
     }
-    let written = write_played(places, samples, forces, out, trace, bytes);
-    let mut next = progress::ended(p, written);
-    next.samples = wrapping_add_u64(p.samples, samples as u64);
-    next
+    if turn.samples == 0 {
+        return p;
+    }
+    let n = console::fitting(turn.samples, out);
+    let k = console::fitting(turn.forces, trace);
+    let stored = store_samples(p, &out[..n], bytes);
+    store_forces(stored, places, &trace[..k], bytes)
 }
 
-// A line's call, its answer, and what it played.
-fn call(
+// ---- one line
+
+// A play that the WAV's header cannot count is a bad line.
+fn fitted(command: Command, wave: Wave) -> Command {
+    let kind = command.kind;
+    match kind {
+        Kind::Play => {
+            if wav::MOST_SAMPLES < wrapping_add_u64(wave.samples, clipped(command.number)) {
+                return text::script::bad(Fault::WaveFull);
+            }
+            command
+        }
+        _ => command,
+    }
+}
+
+// A play of more samples than any is a bad line of its own.
+fn clipped(m: u64) -> u64 {
+    if console::LONGEST < m { 0 } else { m }
+}
+
+// One part of the line's call, and what it played. The answer comes behind the last part, also where a write has failed on the way.
+fn call_part(
     instrument: Instrument,
-    before: Console,
-    asked: Asked,
+    r: Rehearsal,
     places: Places,
     work: &mut [f64; 662000],
     scratch: &mut [f64; 256],
-    out: &mut [f64; 65536],
-    trace: &mut [f64; 65536],
-    answers: &mut [u8; 65536],
-    bytes: &mut [u8; 65536],
+    out: &mut [f64; 8192],
+    trace: &mut [f64; 8192],
+    answers: &mut [u8; 16384],
+    bytes: &mut [u8; 16384],
 ) -> Rehearsal {
-    let command = asked.command;
+    let before = r.console;
+    let task = r.task;
+    let command = parts::next_part(before, task, PART);
     let turn = console::answer(instrument, before, command, work, scratch, out, trace);
     let console = turn.console;
-    let reply = turn.reply;
-    let said = say_reply(asked.progress, reply, instrument, console, work, answers);
-    let progress = store(said, places, turn.samples, turn.forces, out, trace, bytes);
-    Rehearsal { console, progress }
+    let session = console.session;
+    let stored = store(r.progress, places, turn, out, trace, bytes);
+    let rest = parts::after(task, command, turn);
+    if !rest.is_done {
+        let progress = progress::live(stored, session.t, answers);
+        return Rehearsal {
+            console,
+            progress,
+            task: rest,
+        };
+    }
+    let last = turn.reply;
+    let reply = parts::totalled(last, task.sum);
+    let progress = say_reply(stored, reply, instrument, console, work, answers);
+    Rehearsal {
+        console,
+        progress,
+        task: rest,
+    }
+}
+
+// A line's call, part after part.
+fn call(
+    instrument: Instrument,
+    start: Rehearsal,
+    places: Places,
+    work: &mut [f64; 662000],
+    scratch: &mut [f64; 256],
+    out: &mut [f64; 8192],
+    trace: &mut [f64; 8192],
+    answers: &mut [u8; 16384],
+    bytes: &mut [u8; 16384],
+) -> Rehearsal {
+    let mut r = start;
+    for turn in 0..u64::MAX {
+        let next = call_part(
+            instrument,
+            r,
+            places,
+            work,
+            scratch,
+            out,
+            trace,
+            answers,
+            bytes,
+        );
+        let task = next.task;
+        if task.is_done {
+            return next;
+        }
+        r = next;
+    }
+    r
+}
+
+// Answers are out before a play's samples are written, which can fail.
+fn prepared(asked: Asked, console: Console, answers: &[u8]) -> Rehearsal {
+    let before = asked.progress;
+    let command = fitted(asked.command, before.wave);
+    let kind = command.kind;
+    let progress = match kind {
+        Kind::Play => progress::flush(before, answers),
+        _ => before,
+    };
+    Rehearsal {
+        console,
+        progress,
+        task: parts::begun(command),
+    }
 }
 
 fn rehearse_line(
@@ -101,24 +209,24 @@ fn rehearse_line(
     places: Places,
     work: &mut [f64; 662000],
     scratch: &mut [f64; 256],
-    out: &mut [f64; 65536],
-    trace: &mut [f64; 65536],
+    out: &mut [f64; 8192],
+    trace: &mut [f64; 8192],
     input: &mut [u8; 65536],
-    answers: &mut [u8; 65536],
-    bytes: &mut [u8; 65536],
+    answers: &mut [u8; 16384],
+    bytes: &mut [u8; 16384],
 ) -> Rehearsal {
     let console = r.console;
     let session = console.session;
     let asked = progress::read_line(r.progress, session.t, input, answers);
-    let progress = asked.progress;
+    let start = prepared(asked, console, answers);
+    let progress = start.progress;
     let ending = progress.ending;
     if !goes_on(ending) {
-        return Rehearsal { console, progress };
+        return start;
     }
     call(
         instrument,
-        console,
-        asked,
+        start,
         places,
         work,
         scratch,
@@ -135,14 +243,19 @@ fn rehearse_lines(
     places: Places,
     work: &mut [f64; 662000],
     scratch: &mut [f64; 256],
-    out: &mut [f64; 65536],
-    trace: &mut [f64; 65536],
+    out: &mut [f64; 8192],
+    trace: &mut [f64; 8192],
     input: &mut [u8; 65536],
-    answers: &mut [u8; 65536],
-    bytes: &mut [u8; 65536],
+    answers: &mut [u8; 16384],
+    bytes: &mut [u8; 16384],
 ) -> Progress {
     let mut r = start;
     for i in 0..u64::MAX {
+        let progress = r.progress;
+        let ending = progress.ending;
+        if !goes_on(ending) {
+            return progress;
+        }
         let next = rehearse_line(
             instrument,
             r,
@@ -155,85 +268,73 @@ fn rehearse_lines(
             answers,
             bytes,
         );
-        let progress = next.progress;
-        let ending = progress.ending;
-        if !goes_on(ending) {
-            return progress;
-        }
         r = next;
     }
     r.progress
 }
 
+// ---- the whole script
+
+// The samples' file is emptied, and its header written, once the opening's answer is out.
+fn begin_files(p: Progress, places: Places) -> Progress {
+    let ending = p.ending;
+    if !goes_on(ending) {
+        return p;
+    }
+    let wave = p.wave;
+    let begun = with_wave(p, wave::begin(places.wave, wave.rate));
+    if !places.has_forces {
+        return begun;
+    }
+    if output::cut(places.forces, 0) {
+        return begun;
+    }
+    progress::ended(begun, Ending::ForcesFailed(os::errno()))
+}
+
 // The opening's line comes first, then the script's.
 fn open_console(
     instrument: Instrument,
-    reader: Reader,
-    work: &mut [f64],
-    trace: &[f64],
-    answers: &mut [u8],
+    begun: Progress,
+    places: Places,
+    work: &mut [f64; 662000],
+    answers: &mut [u8; 16384],
 ) -> Rehearsal {
-    let turn = console::open(instrument, work, trace);
+    let turn = console::open(instrument, work);
     let console = turn.console;
     let reply = turn.reply;
-    let said = say_reply(
-        progress::begun(reader),
-        reply,
-        instrument,
-        console,
-        work,
-        answers,
-    );
+    let said = say_reply(begun, reply, instrument, console, work, answers);
+    let flushed = progress::flush(said, answers);
     let progress = if console::is_opened(reply) {
-        said
+        begin_files(flushed, places)
     } else {
-        progress::ended(said, Ending::Finished)
+        progress::ended(flushed, Ending::Finished)
     };
-    Rehearsal { console, progress }
-}
-
-pub struct Played {
-    pub samples: u64,
-    pub ending: Ending,
-}
-
-// All answers are out at the end. A failure's words are the system's last, so that nothing is called behind it.
-fn finish(p: Progress, answers: &[u8; 65536]) -> Played {
-    let ending = p.ending;
-    match ending {
-        Ending::Finished => {
-            let out = output::flush(answers, p.answers);
-            let last = if out.is_failed {
-                Ending::AnswersFailed
-            } else {
-                Ending::Finished
-            };
-            Played {
-                samples: p.samples,
-                ending: last,
-            }
-        }
-        _ => Played {
-            samples: p.samples,
-            ending,
-        },
+    Rehearsal {
+        console,
+        progress,
+        task: parts::begun(text::script::blank()),
     }
 }
 
-// The program's memory: document 01's largest instrument has five parts of 132,384 cells, and six scratch cells for each of 32 strings.
+fn finish(p: Progress, answers: &[u8; 16384]) -> Progress {
+    progress::flush(p, answers)
+}
+
+// The program's memory: document 01's largest instrument has five parts of 132,384 cells, and six scratch cells for each of 32 strings. All answers are out at the end.
 pub fn play_script(
     instrument: Instrument,
-    reader: Reader,
+    begun: Progress,
     places: Places,
     input: &mut [u8; 65536],
-) -> Played {
+) -> Progress {
     let mut work = [0.0; 662000];
     let mut scratch = [0.0; 256];
-    let mut out = [0.0; 65536];
-    let mut trace = [0.0; 65536];
-    let mut answers = io::large_buffer();
-    let mut bytes = io::large_buffer();
-    let opened = open_console(instrument, reader, &mut work, &trace, &mut answers);
+    let mut out = [0.0; 8192];
+    let mut trace = [0.0; 8192];
+    let mut answers = [0u8; 16384];
+    let mut bytes = [0u8; 16384];
+    let opened = open_console(instrument, begun, places, &mut work, &mut answers);
     let last = rehearse_lines(
         instrument,
         opened,

@@ -39,7 +39,7 @@ struct Replay {
 fn open(file: &[u8], work: &mut [f64], trace: &[f64], text: &mut [u8]) -> Replay {
     let answer = instrument_file::read(file);
     let instrument = answer.instrument;
-    let turn = console::open(instrument, work, trace);
+    let turn = console::open(instrument, work);
     let console = turn.console;
     let reply = turn.reply;
     let length = if answer.refusal == 0 {

@@ -8,9 +8,10 @@ use crate::number::velocity_of;
 use crate::word::place_of;
 use crate::word::word_at;
 use crate::word::word_count;
+use little_endian::byte_at;
 
-// What a line asks for, with its numbers beside it where it has any. A bad line says what it lacks; the last two
-// faults are for those to give that know how long a line or a buffer may be.
+// What a line asks for, with its numbers beside it where it has any. A bad line says what it lacks; the last three
+// faults are for those to give that know how long a line, a buffer or a file may be.
 pub enum Kind {
     Blank,
     Play,
@@ -31,7 +32,9 @@ pub enum Kind {
 
 pub enum Fault {
     UnknownCommand,
+    ByteOrderMark,
     UnknownEvent,
+    NoEvent,
     UnknownBuffer,
     WrongWords,
     NoNumber,
@@ -40,6 +43,7 @@ pub enum Fault {
     NoDirection,
     TooLarge,
     LineTooLong,
+    WaveFull,
 }
 
 // `number` is a count, a position or an index; an event's key, velocity and direction follow it.
@@ -61,8 +65,13 @@ fn made(kind: Kind, number: u64) -> Command {
     }
 }
 
-fn bad(fault: Fault) -> Command {
+pub fn bad(fault: Fault) -> Command {
     made(Kind::Bad(fault), 0)
+}
+
+// A line that asks for nothing.
+pub fn blank() -> Command {
+    made(Kind::Blank, 0)
 }
 
 // A command of one word.
@@ -172,11 +181,23 @@ fn event_at(line: &[u8], position: u64) -> Command {
 
 // `insert Q EVENT ..`
 fn insert(line: &[u8]) -> Command {
+    if word_count(line) < 3 {
+        return bad(Fault::NoEvent);
+    }
     let n = number_of(word_at(line, 1));
     match n {
         Number::Value(position) => event_at(line, position),
         _ => bad(Fault::NoNumber),
     }
+}
+
+// Some editors begin a text with the three bytes of a byte order mark, which no eye sees.
+fn unknown(line: &[u8]) -> Command {
+    let mark = (byte_at(line, 0) == 0xef) & (byte_at(line, 1) == 0xbb) & (byte_at(line, 2) == 0xbf);
+    if mark {
+        return bad(Fault::ByteOrderMark);
+    }
+    bad(Fault::UnknownCommand)
 }
 
 fn named(line: &[u8]) -> Command {
@@ -193,17 +214,17 @@ fn named(line: &[u8]) -> Command {
         5 => alone(line, Kind::Energies),
         6 => alone(line, Kind::State),
         7 => lend(line),
-        _ => bad(Fault::UnknownCommand),
+        _ => unknown(line),
     }
 }
 
 // One line, without its line feed.
 pub fn command_of(line: &[u8]) -> Command {
-    if little_endian::byte_at(line, 0) == b'#' {
-        return made(Kind::Blank, 0);
+    if byte_at(line, 0) == b'#' {
+        return blank();
     }
     if word_count(line) == 0 {
-        return made(Kind::Blank, 0);
+        return blank();
     }
     named(line)
 }
@@ -214,6 +235,6 @@ pub fn command_in(buffer: &[u8], line: Line) -> Command {
     match found {
         Found::Line => command_of(crate::lines::text_of(buffer, line)),
         Found::TooLong => bad(Fault::LineTooLong),
-        _ => made(Kind::Blank, 0),
+        _ => blank(),
     }
 }

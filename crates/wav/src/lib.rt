@@ -45,9 +45,17 @@ fn clipped(n: u64, most: u64) -> u64
     if n < most { n } else { most }
 }
 
+// The most samples whose file's size a header of 32 bits can say.
+pub const MOST_SAMPLES: u64 = 0x1fff_fff9;
+
+// A file's length, of no more samples than that.
+pub fn file_size(count: u64) -> i64 {
+    (58 + clipped(count, MOST_SAMPLES) * 8) as i64
+}
+
 // A file's first bytes: `count` samples at `rate` a second. Sizes of over 32 bits stop at the largest.
 pub fn header(rate: u64, count: u64) -> [u8; 58] {
-    let samples = clipped(count, 0x1fff_fff0);
+    let samples = clipped(count, MOST_SAMPLES);
     let size = samples * 8;
     let pace = clipped(rate, 0x1fff_ffff) * 8;
     let mut h = [0u8; 58];

@@ -15,14 +15,14 @@ abbrev μ-loop : tie.MeasureT-loop
 loop-holds : tie.Need-loop-holds Inv-loop μ-loop
 loop-holds c = search needs
 
-rehearse-line-requires : tie.Need-rehearse-line-requires Inv-loop μ-loop
-rehearse-line-requires c κs = search needs
-
 goes-on-requires : tie.Need-goes-on-requires Inv-loop μ-loop
 goes-on-requires c κs = search needs
 
 returns : tie.Need-returns Inv-loop μ-loop
 returns c = search needs
+
+rehearse-line-requires : tie.Need-rehearse-line-requires Inv-loop μ-loop
+rehearse-line-requires c κs = search needs
 
 add-i : tie.Need-add-i Inv-loop μ-loop
 add-i c = search needs
@@ -43,9 +43,9 @@ rehearse-lines-spec =
     Inv-loop
     μ-loop
     loop-holds
-    rehearse-line-requires
     goes-on-requires
     returns
+    rehearse-line-requires
     add-i
     loop-less
     loop-again

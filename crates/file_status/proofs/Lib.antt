@@ -1,0 +1,2 @@
+pub mod ByNumber
+pub mod Filled

@@ -1,0 +1,33 @@
+// The standard streams. A file that is opened where one of them is closed takes its number, and would get what is written there: so a program opens nothing before it has asked.
+use crate::message::complain;
+use file_status::status_of;
+use libc::STDERR_FILENO;
+use libc::STDIN_FILENO;
+use libc::STDOUT_FILENO;
+
+// Whether answers and messages can go out; else it is said on the one of the two that is open.
+pub fn are_open(program: &[u8]) -> bool {
+    let answers = status_of(STDOUT_FILENO);
+    let messages = status_of(STDERR_FILENO);
+    if !messages.is_known {
+        if answers.is_known {
+            io::write_all(STDOUT_FILENO, program);
+            io::write_all(STDOUT_FILENO, b": standard error: it is closed\n");
+        }
+        return false;
+    }
+    if !answers.is_known {
+        complain(program, b"standard output", b"it is closed");
+        return false;
+    }
+    true
+}
+
+// Whether standard input can be read; else it is said.
+pub fn is_input_open(program: &[u8]) -> bool {
+    let input = status_of(STDIN_FILENO);
+    if !input.is_known {
+        complain(program, b"standard input", b"it is closed");
+    }
+    input.is_known
+}

@@ -1,0 +1,148 @@
+// The instrument's file. What cannot be opened or read is named on standard error; a refused file answers its number.
+use file_status::FileStatus;
+use instrument::Instrument;
+use libc::STDOUT_FILENO;
+use little_endian::part;
+use little_endian::u32_at;
+use program::arguments::DONE;
+use program::arguments::REFUSED;
+use program::arguments::WRONG;
+use program::input;
+use program::kind;
+use program::message::complain;
+use program::message::complain_of;
+use program::output;
+use std::num::wrapping_add_u64;
+
+// An instrument where `status` is DONE.
+pub struct Loaded {
+    pub status: u8,
+    pub instrument: Instrument,
+    pub file: FileStatus,
+}
+
+fn without(status: u8, file: FileStatus) -> Loaded {
+    let answer = instrument_file::read(b"");
+    let instrument = answer.instrument;
+    Loaded {
+        status,
+        instrument,
+        file,
+    }
+}
+
+// The refusal's line, which goes to standard error where standard output takes nothing.
+fn refuse(path: &[u8], refusal: u32) {
+    let mut line = [0u8; 128];
+    let n = console::put_refusal(&mut line, refusal as u64);
+    let end = text::put(&mut line, n, b"\n");
+    let written = output::write(STDOUT_FILENO, part(&line, 0, end));
+    if written.error != 0 {
+        complain_of(b"rehearse", b"standard output", written.error);
+        complain(b"rehearse", path, part(&line, 0, n));
+    }
+}
+
+// The file's instrument, or its refusal as the one line of answer.
+pub fn accept(bytes: &[u8], path: &[u8], file: FileStatus) -> Loaded {
+    let answer = instrument_file::read(bytes);
+    let instrument = answer.instrument;
+    if answer.refusal == 0 {
+        return Loaded {
+            status: DONE,
+            instrument,
+            file,
+        };
+    }
+    refuse(path, answer.refusal);
+    without(REFUSED, file)
+}
+
+// ---- files that are longer than any instrument's
+
+// Whether the pairs so far chain, and where the last of them ends.
+struct Chain {
+    holds: bool,
+    end: u64,
+}
+
+fn wide(x: u32) -> u64 {
+    x as u64
+}
+
+fn linked(table: &[u8], i: usize, chain: Chain) -> Chain {
+    if 16 < i {
+        return chain;
+    }
+    let offset = wide(u32_at(table, 4 + 8 * i));
+    let length = wide(u32_at(table, 8 + 8 * i));
+    Chain {
+        holds: chain.holds & (chain.end == offset),
+        end: wrapping_add_u64(offset, length),
+    }
+}
+
+fn table_end(sections: u32) -> u64 {
+    4 + 8 * (sections as u64)
+}
+
+// Whether the table's pairs, of which there are at most 17, chain from its end to the file's.
+fn is_chained(table: &[u8], size: i64) -> bool {
+    let sections = u32_at(table, 0);
+    if 17 < sections {
+        return false;
+    }
+    let mut chain = Chain {
+        holds: true,
+        end: table_end(sections),
+    };
+    for i in 0..sections {
+        let next = linked(table, i as usize, chain);
+        chain = next;
+    }
+    chain.holds & (input::offset_of(chain.end) == size)
+}
+
+// A file whose sections have the lengths of refusal 3 has less than 8,192 bytes: one that fills them is refused as 1, 2 or 3, by its table and its size alone.
+fn refusal_of_long(bytes: &[u8], size: i64) -> u32 {
+    let answer = instrument_file::read(bytes);
+    if answer.refusal == 1 {
+        return 1;
+    }
+    if is_chained(bytes, size) { 3 } else { 2 }
+}
+
+// A device has no size, and no table chains to its end.
+fn size_of(file: FileStatus) -> i64 {
+    if kind::is_regular(file) {
+        file.size
+    } else {
+        -1
+    }
+}
+
+// ---- reading
+
+fn read(fd: i32, path: &[u8], file: FileStatus) -> Loaded {
+    let mut bytes = [0u8; 8192];
+    let read = input::read_all(fd, &mut bytes);
+    if read.error != 0 {
+        complain_of(b"rehearse", path, read.error);
+        return without(WRONG, file);
+    }
+    if 8192 <= read.count {
+        refuse(path, refusal_of_long(&bytes, size_of(file)));
+        return without(REFUSED, file);
+    }
+    accept(part(&bytes, 0, read.count), path, file)
+}
+
+pub fn load(path: &[u8]) -> Loaded {
+    let source = input::open(b"rehearse", path);
+    if source.fd < 0 {
+        return without(WRONG, source.file);
+    }
+    let loaded = read(source.fd, path, source.file);
+    libc::close(source.fd);
+    loaded
+}
