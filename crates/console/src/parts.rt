@@ -28,6 +28,11 @@ pub fn begun(command: Command) -> Task {
     }
 }
 
+// Nothing is left to do.
+pub fn none() -> Task {
+    done(begun(text::script::blank()))
+}
+
 // ---- a go's parts
 
 fn later(cue: Cue, p: u64, best: u64) -> u64 {

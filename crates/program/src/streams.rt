@@ -5,22 +5,29 @@ use libc::STDERR_FILENO;
 use libc::STDIN_FILENO;
 use libc::STDOUT_FILENO;
 
+// A write of no bytes tells of a descriptor that is closed, or open for reading alone.
+fn is_closed(fd: i32) -> bool {
+    let none = [0u8; 1];
+    if libc::write(fd, &none[..0]) < 0 {
+        return os::errno() == libc::EBADF;
+    }
+    false
+}
+
 // Whether answers and messages can go out; else it is said on the one of the two that is open.
 pub fn are_open(program: &[u8]) -> bool {
-    let answers = status_of(STDOUT_FILENO);
-    let messages = status_of(STDERR_FILENO);
-    if !messages.is_known {
-        if answers.is_known {
+    let is_answering = !is_closed(STDOUT_FILENO);
+    if is_closed(STDERR_FILENO) {
+        if is_answering {
             io::write_all(STDOUT_FILENO, program);
             io::write_all(STDOUT_FILENO, b": standard error: it is closed\n");
         }
         return false;
     }
-    if !answers.is_known {
+    if !is_answering {
         complain(program, b"standard output", b"it is closed");
-        return false;
     }
-    true
+    is_answering
 }
 
 // Whether standard input can be read; else it is said.

@@ -1,7 +1,6 @@
 // A script's lines, one after the other: each is read, called, answered, and what it played is written.
 use crate::places::Places;
 use crate::progress;
-use crate::progress::Asked;
 use crate::progress::Ending;
 use crate::progress::Progress;
 use crate::progress::goes_on;
@@ -153,42 +152,20 @@ fn call_part(
     }
 }
 
-// A line's call, part after part.
-fn call(
-    instrument: Instrument,
-    start: Rehearsal,
-    places: Places,
-    work: &mut [f64; 662000],
-    scratch: &mut [f64; 256],
-    out: &mut [f64; 8192],
-    trace: &mut [f64; 8192],
-    answers: &mut [u8; 16384],
-    bytes: &mut [u8; 16384],
-) -> Rehearsal {
-    let mut r = start;
-    for turn in 0..u64::MAX {
-        let next = call_part(
-            instrument,
-            r,
-            places,
-            work,
-            scratch,
-            out,
-            trace,
-            answers,
-            bytes,
-        );
-        let task = next.task;
-        if task.is_done {
-            return next;
-        }
-        r = next;
+// Nothing is called once the rehearsal has ended.
+fn task_of(p: Progress, command: Command) -> Task {
+    let ending = p.ending;
+    if goes_on(ending) {
+        return parts::begun(command);
     }
-    r
+    parts::none()
 }
 
-// Answers are out before a play's samples are written, which can fail.
-fn prepared(asked: Asked, console: Console, answers: &[u8]) -> Rehearsal {
+// The script's next line. Answers are out before a play's samples are written, which can fail.
+fn next_line(r: Rehearsal, input: &mut [u8; 65536], answers: &mut [u8; 16384]) -> Rehearsal {
+    let console = r.console;
+    let session = console.session;
+    let asked = progress::read_line(r.progress, session.t, input, answers);
     let before = asked.progress;
     let command = fitted(asked.command, before.wave);
     let kind = command.kind;
@@ -196,14 +173,16 @@ fn prepared(asked: Asked, console: Console, answers: &[u8]) -> Rehearsal {
         Kind::Play => progress::flush(before, answers),
         _ => before,
     };
+    let task = task_of(progress, command);
     Rehearsal {
         console,
         progress,
-        task: parts::begun(command),
+        task,
     }
 }
 
-fn rehearse_line(
+// A new line, or the next part of the last one.
+fn turn(
     instrument: Instrument,
     r: Rehearsal,
     places: Places,
@@ -215,18 +194,13 @@ fn rehearse_line(
     answers: &mut [u8; 16384],
     bytes: &mut [u8; 16384],
 ) -> Rehearsal {
-    let console = r.console;
-    let session = console.session;
-    let asked = progress::read_line(r.progress, session.t, input, answers);
-    let start = prepared(asked, console, answers);
-    let progress = start.progress;
-    let ending = progress.ending;
-    if !goes_on(ending) {
-        return start;
+    let task = r.task;
+    if task.is_done {
+        return next_line(r, input, answers);
     }
-    call(
+    call_part(
         instrument,
-        start,
+        r,
         places,
         work,
         scratch,
@@ -235,6 +209,14 @@ fn rehearse_line(
         answers,
         bytes,
     )
+}
+
+// Whether the rehearsal is over: nothing is left of the last line, and no other comes.
+fn is_over(r: Rehearsal) -> bool {
+    let progress = r.progress;
+    let ending = progress.ending;
+    let task = r.task;
+    !goes_on(ending) & task.is_done
 }
 
 fn rehearse_lines(
@@ -251,12 +233,10 @@ fn rehearse_lines(
 ) -> Progress {
     let mut r = start;
     for i in 0..u64::MAX {
-        let progress = r.progress;
-        let ending = progress.ending;
-        if !goes_on(ending) {
-            return progress;
+        if is_over(r) {
+            return r.progress;
         }
-        let next = rehearse_line(
+        let next = turn(
             instrument,
             r,
             places,
@@ -313,7 +293,7 @@ fn open_console(
     Rehearsal {
         console,
         progress,
-        task: parts::begun(text::script::blank()),
+        task: parts::none(),
     }
 }
 

@@ -1,4 +1,4 @@
--- Ending: the turns are counted, and no script has as many lines. Assumes nothing.
+-- Ending: the turns are counted, and no script has as many lines and parts. Assumes nothing.
 use Prim.Native.Nat.{_-_}
 use borrow.Author.Needs.{needs}
 use Rattle.rehearse.proofs.rehearsal.rehearse_lines.Statement.{statement}
@@ -15,14 +15,14 @@ abbrev μ-loop : tie.MeasureT-loop
 loop-holds : tie.Need-loop-holds Inv-loop μ-loop
 loop-holds c = search needs
 
-goes-on-requires : tie.Need-goes-on-requires Inv-loop μ-loop
-goes-on-requires c κs = search needs
+is-over-requires : tie.Need-is-over-requires Inv-loop μ-loop
+is-over-requires c κs = search needs
 
 returns : tie.Need-returns Inv-loop μ-loop
 returns c = search needs
 
-rehearse-line-requires : tie.Need-rehearse-line-requires Inv-loop μ-loop
-rehearse-line-requires c κs = search needs
+turn-requires : tie.Need-turn-requires Inv-loop μ-loop
+turn-requires c κs = search needs
 
 add-i : tie.Need-add-i Inv-loop μ-loop
 add-i c = search needs
@@ -43,9 +43,9 @@ rehearse-lines-spec =
     Inv-loop
     μ-loop
     loop-holds
-    goes-on-requires
+    is-over-requires
     returns
-    rehearse-line-requires
+    turn-requires
     add-i
     loop-less
     loop-again
