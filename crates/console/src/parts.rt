@@ -1,6 +1,6 @@
 // Long calls in parts. A play that the output does not hold whole, and a go of many samples, are several calls of the session, so that the program can write what was played and show that
-// it is alive. What the parts leave is what the whole leaves, and their numbers add up to its number: `go-parts` and `play-parts` in `machine`. A call that would be refused is refused
-// at its first part, and changes nothing.
+// it is alive. What the parts leave is what the whole leaves, and their numbers add up to its number: `go-parts` and `play-parts` in session_theorem/specs/Parts. A call that would be
+// refused is refused at its first part, and changes nothing.
 use crate::Console;
 use crate::Response;
 use crate::Turn;

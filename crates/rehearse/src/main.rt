@@ -8,11 +8,15 @@ mod rehearsal;
 
 use instrument::Instrument;
 use libc::STDERR_FILENO;
+use little_endian::part;
 use places::Places;
 use program::arguments;
 use program::arguments::Arguments;
 use program::arguments::DONE;
 use program::arguments::WRONG;
+use program::input;
+use program::kind;
+use program::message::complain;
 use program::message::complain_at;
 use program::message::complain_of;
 use program::output;
@@ -48,13 +52,17 @@ fn tell(p: Progress, script: &[u8], wav: &[u8], forces: &[u8]) -> u8 {
     }
 }
 
+fn rate_of(instrument: Instrument) -> u64 {
+    let common = instrument.common;
+    float::round_away(common.fs)
+}
+
 // The WAV before it is begun.
 fn wave_of(instrument: Instrument, places: Places) -> Wave {
-    let common = instrument.common;
     let out = places.wave;
     Wave {
         out,
-        rate: float::round_away(common.fs),
+        rate: rate_of(instrument),
         samples: 0,
         error: 0,
     }
@@ -71,14 +79,48 @@ fn rehearse_phrase(instrument: Instrument, places: Places) -> u8 {
     tell(last, b"the script", b"rehearsal.wav", b"")
 }
 
+// Whether rehearsal.wav may be written: nobody named it, so one that is there goes only where it is empty or begins as this program's WAVs do (all that stands before their number of samples).
+fn is_own(path: &[u8], rate: u64) -> bool {
+    let source = input::open(b"rehearse", path);
+    if source.fd < 0 {
+        return false;
+    }
+    let mut bytes = [0u8; 46];
+    let read = input::read_all(source.fd, &mut bytes);
+    libc::close(source.fd);
+    let header = wav::header(rate, 0);
+    let is_begun = check::same(part(&bytes, 0, 4), part(&header, 0, 4))
+        & check::same(part(&bytes, 8, 38), part(&header, 8, 38));
+    (read.error == 0) & ((read.count == 0) | is_begun)
+}
+
+fn is_free(path: &[u8], rate: u64) -> bool {
+    let file = file_status::status_at(path);
+    if !kind::is_regular(file) {
+        return true;
+    }
+    if is_own(path, rate) {
+        return true;
+    }
+    complain(
+        b"rehearse",
+        path,
+        b"it is there, and not by this program; it is left as it is",
+    );
+    false
+}
+
 // No file is read, so only answers and messages are in use.
 fn rehearse_embedded() -> u8 {
     let mut file = [0u8; 2048];
     let n = embedded::put_instrument(&mut file);
     let nothing = file_status::status_of(-1);
-    let loaded = loading::accept(little_endian::part(&file, 0, n), b"the instrument", nothing);
+    let loaded = loading::accept(part(&file, 0, n), b"the instrument", nothing);
     if loaded.status != DONE {
         return loaded.status;
+    }
+    if !is_free(b"rehearsal.wav", rate_of(loaded.instrument)) {
+        return WRONG;
     }
     let used = output::in_use(nothing, nothing);
     let places = places::open_places(b"rehearsal.wav", b"", false, used);
