@@ -4,5 +4,6 @@ pub mod Arrays
 pub mod Stands
 pub mod Steps
 pub mod Demand
+pub mod Parts
 pub mod Past
 pub mod Beyond

@@ -53,6 +53,26 @@ by-refusal i s work p n (suc m) done r work′ out trace g e refuses accepts =
 refusal-same : (a b c : ℕ) → a ≡ 0 → b ≡ c → orElse a b ≡ c
 refusal-same a b c e f = rw e f
 
+-- the greatest of 0 and the members not above q is 0 or a member
+pub greatest-held : (q : ℕ) (l : List ℕ) → (greatest (upTo q l) ≡ 0) ⊎ (isIn (greatest (upTo q l)) l ≡ true)
+greatest-held q l =
+    ⊎-elim (λ (z : greatest (upTo q l) ≡ 0). inl z)
+    (λ (z : isIn (greatest (upTo q l)) (upTo q l) ≡ true). inr (sym (in-upTo q (greatest (upTo q l)) l (greatest-upTo q l)) ∙ z)) (greatest-member (upTo q l))
+
+-- a block is the run from the render's state at its start
+module _ (i : Instrument) (score : List TimedEvent) (t m : ℕ) where
+  pub block-samples : blockSamples i score t m ≡ samples i score t m (renderState i score t)
+  unfolding blockSamples
+  block-samples =
+      ap (drop t) (render-samples i score t m)
+      ∙ drop-at (renderSamples i score t) (samples i score t m (renderState i score t)) t (samples-length i score 0 t (silence i))
+
+  pub block-forces : blockForces i score t m ≡ forces i score t m (renderState i score t)
+  unfolding blockForces
+  block-forces =
+      ap (drop (length (renderForces i score t))) (render-forces i score t m)
+      ∙ drop-at (renderForces i score t) (forces i score t m (renderState i score t)) (length (renderForces i score t)) refl
+
 -- a call that leaves the cues and their parts alone: the first part and t are new
 module _ (i : Instrument) (s s′ : Session) (work work′ : List Float) (p p′ : Machine) (g : Stands i s work p) (m : SoundMachine p′) (st : State)
     (here : s′ ≡ record { t = p′ .t; count = s .count; events = s .events; cues = s .cues; piano = st .piano })
@@ -111,19 +131,10 @@ module _ (i : Instrument) (s : Session) (work : List Float) (p : Machine) (g : S
       pushed = forces i (scoreOf s) (s .t) m (stateNow i s work)
 
       pushed-is : pushed ≡ blockForces i (p .score) (p .t) m
-      unfolding blockForces
-      pushed-is =
-          rw (f .score, f .position, f .now)
-          (sym (ap (drop (length (renderForces i (p .score) (p .t)))) (render-forces i (p .score) (p .t) m)
-          ∙ drop-at (renderForces i (p .score) (p .t)) (forces i (p .score) (p .t) m (renderState i (p .score) (p .t))) (length (renderForces i (p .score) (p .t))) refl))
+      pushed-is = rw (f .score, f .position, f .now) (sym (block-forces i (p .score) (p .t) m))
 
       sounded-is : out′ ≡ blockSamples i (p .score) (p .t) m
-      unfolding blockSamples
-      sounded-is =
-          d .sound
-          ∙ rw (f .score, f .position, f .now)
-          (sym (ap (drop (p .t)) (render-samples i (p .score) (p .t) m)
-          ∙ drop-at (renderSamples i (p .score) (p .t)) (samples i (p .score) (p .t) m (renderState i (p .score) (p .t))) (p .t) (samples-length i (p .score) 0 (p .t) (silence i))))
+      sounded-is = d .sound ∙ rw (f .score, f .position, f .now) (sym (block-samples i (p .score) (p .t) m))
 
       play-reply : replyOf (r .answer) out′ trace′ ≡ Reply.played (length (blockForces i (p .score) (p .t) m)) (blockSamples i (p .score) (p .t) m) (blockForces i (p .score) (p .t) m)
       play-reply =
@@ -235,21 +246,13 @@ module _ (i : Instrument) (s : Session) (work : List Float) (p : Machine) (g : S
     go-same : goNumber i s (length work) scratch q ≡ goRefusal i scratch q start
     go-same = refusal-same _ _ _ (standing-passes i s work p g) (ap (goRefusal i scratch q) start-same)
 
-    -- the start is 0, t or a kept cue
-    start-held : (startOf (s .t) (keptBy s) q ≡ 0) ⊎ (isIn (startOf (s .t) (keptBy s) q) (s .t ∷ keptBy s) ≡ true)
-    start-held =
-        ⊎-elim (λ (z : greatest (upTo q (s .t ∷ keptBy s)) ≡ 0). inl z)
-        (λ (z : isIn (greatest (upTo q (s .t ∷ keptBy s))) (upTo q (s .t ∷ keptBy s)) ≡ true).
-        inr (sym (in-upTo q (greatest (upTo q (s .t ∷ keptBy s))) (s .t ∷ keptBy s) (greatest-upTo q (s .t ∷ keptBy s))) ∙ z))
-        (greatest-member (upTo q (s .t ∷ keptBy s)))
-
     module _ (d : Goes i s work q (startOf (s .t) (keptBy s) q) r work′) (sound : SoundMachine (record { score = p .score; t = q; cues = p .cues })) where
       go-stands : Stands i (r .session) work′ (record { score = p .score; t = q; cues = p .cues })
       go-stands =
           let x = startOf (s .t) (keptBy s) q in
           let low : x + (q - x) ≡ q = add-sub-of-le (greatest-upTo q (s .t ∷ keptBy s)) in
           moved i s (r .session) work work′ p (record { score = p .score; t = q; cues = p .cues }) g sound (run i (scoreOf s) x (q - x) (heldAt i s work x)) (d .session) (d .memory)
-          (rw (f .score, held-render i s work p g x start-held) (sym (render-then i (p .score) x (q - x)) ∙ ap (renderState i (p .score)) low)) refl refl
+          (rw (f .score, held-render i s work p g x (greatest-held q (s .t ∷ keptBy s))) (sym (render-then i (p .score) x (q - x)) ∙ ap (renderState i (p .score)) low)) refl refl
 
     go-step : Stands i (r .session) work′ (does i p (Call.go scratch q) .0) × (replyOf (r .answer) out trace ≡ does i p (Call.go scratch q) .1)
     unfolding does
@@ -275,9 +278,7 @@ module _ (i : Instrument) (s : Session) (work : List Float) (p : Machine) (g : S
         go : (b : Bool) → ltb q (s .t) ≡ b → (cond b (greatest (upTo q (keptBy s))) (s .t) ≡ 0) ⊎ (isIn (cond b (greatest (upTo q (keptBy s))) (s .t)) (s .t ∷ keptBy s) ≡ true)
         go true e =
             ⊎-elim (λ (z : greatest (upTo q (keptBy s)) ≡ 0). inl z)
-            (λ (z : isIn (greatest (upTo q (keptBy s))) (upTo q (keptBy s)) ≡ true).
-            inr (in-cons (greatest (upTo q (keptBy s))) (s .t) (keptBy s) (sym (in-upTo q (greatest (upTo q (keptBy s))) (keptBy s) (greatest-upTo q (keptBy s))) ∙ z)))
-            (greatest-member (upTo q (keptBy s)))
+            (λ (z : isIn (greatest (upTo q (keptBy s))) (keptBy s) ≡ true). inr (in-cons (greatest (upTo q (keptBy s))) (s .t) (keptBy s) z)) (greatest-held q (keptBy s))
         go false e = inr (in-front (s .t) (keptBy s))
 
     render-alike : (x : ℕ) → x ≤ q → renderState i (p .score) x ≡ renderState i score′ x
