@@ -88,7 +88,7 @@ fn scratch_cells(instrument: Instrument) -> usize {
 pub fn open(instrument: Instrument, work: &mut [f64]) -> Turn {
     let lent = Lent {
         scratch: scratch_cells(instrument),
-        trace: 65536,
+        trace: LONGEST as usize,
         work: work.len(),
     };
     called(lent, session::open(instrument, work))
