@@ -124,6 +124,9 @@ fn write_wave(
     output: &[u8],
 ) -> u8 {
     let used = output::in_use(source.file, tap_file);
+    if !output::are_streams_apart(b"decimate", used) {
+        return WRONG;
+    }
     if !is_free(output, used) {
         return WRONG;
     }

@@ -42,6 +42,31 @@ fn place_in(used: InUse, file: FileStatus) -> u64 {
     }
 }
 
+fn is_input(used: InUse, file: FileStatus) -> bool {
+    place_in(used, file) < 2
+}
+
+// Whether neither answers nor messages go into an input: a script would then be fed with its own answers. It is said on the other of the two.
+pub fn are_streams_apart(program: &[u8], used: InUse) -> bool {
+    if is_input(used, used.messages) {
+        io::write_all(STDOUT_FILENO, program);
+        io::write_all(
+            STDOUT_FILENO,
+            b": standard error: it is an input, and an output may not be an input\n",
+        );
+        return false;
+    }
+    if is_input(used, used.answers) {
+        complain(
+            program,
+            b"standard output",
+            b"it is an input, and an output may not be an input",
+        );
+        return false;
+    }
+    true
+}
+
 // Whether what the path names may be written: it is none of those in use, whose rows say what they are. Nothing is opened.
 pub fn is_apart(program: &[u8], path: &[u8], used: InUse, rows: &[u8]) -> bool {
     let file = status_at(path);

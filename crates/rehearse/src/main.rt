@@ -167,6 +167,9 @@ fn rehearse_on(
         return WRONG;
     }
     let used = output::in_use(loaded.file, source.file);
+    if !output::are_streams_apart(b"rehearse", used) {
+        return WRONG;
+    }
     let places = places::open_places(wav, forces, has_forces, used);
     if !places.are_open {
         return WRONG;

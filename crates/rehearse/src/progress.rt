@@ -135,14 +135,6 @@ pub fn live(p: Progress, t: u64, buffer: &[u8]) -> Progress {
 
 // ---- the script's lines
 
-// A read may wait or fail, so all answers are out before it.
-fn flush_waiting(p: Progress, input: &[u8], buffer: &[u8]) -> Progress {
-    if !lines::is_waiting(input, p.reader) {
-        return p;
-    }
-    flush(p, buffer)
-}
-
 // A script that is shown stands in the answers: a remark as it is, a call behind a mark.
 fn show(p: Progress, text: &[u8], buffer: &mut [u8]) -> Progress {
     if !p.is_shown {
@@ -181,9 +173,20 @@ fn ask(p: Progress, input: &mut [u8], buffer: &mut [u8]) -> Asked {
     Asked { progress, command }
 }
 
-// What comes before a line is read, and the line.
+// Time that went by in waiting for the line was no work.
+fn rested(asked: Asked) -> Asked {
+    let command = asked.command;
+    let mut progress = asked.progress;
+    progress.due = wall_time() + PATIENCE;
+    Asked { progress, command }
+}
+
+// The next line. A read may wait or fail, so all answers are out before it.
 pub fn read_line(p: Progress, t: u64, input: &mut [u8], buffer: &mut [u8]) -> Asked {
     let lived = live(p, t, buffer);
-    let flushed = flush_waiting(lived, input, buffer);
-    ask(flushed, input, buffer)
+    if !lines::is_waiting(input, p.reader) {
+        return ask(lived, input, buffer);
+    }
+    let flushed = flush(lived, buffer);
+    rested(ask(flushed, input, buffer))
 }
