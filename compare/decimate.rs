@@ -272,8 +272,8 @@ fn complaints(counts: &mut Counts, program: &Program) {
         ("good.wav", "taps", "18446744073709551618", "18446744073709551618", "refused 17"),
         ("good.wav", "taps", "two", "two", "no whole number"),
         ("good.wav", "taps", "-2", "-2", "no whole number"),
-        ("good.wav", "taps", "", "", "no whole number"),
-        ("out.wav", "taps", "2", "out.wav", "it is the input"),
+        ("good.wav", "taps", "", "FACTOR", "no whole number"),
+        ("out.wav", "taps", "2", "out.wav", "No such file"),
     ];
     let broken = wave_files::broken();
     for (name, bytes, words) in &broken {
@@ -282,7 +282,7 @@ fn complaints(counts: &mut Counts, program: &Program) {
     }
     for (input, taps, factor, named, words) in cases {
         let run = program.run(input, taps, factor);
-        let clear = run.complained.starts_with(&format!("{named}: ")) && run.complained.contains(words);
+        let clear = run.complained.starts_with(&format!("decimate: {named}: ")) && run.complained.contains(words);
         if !clear || !run.said.is_empty() || run.output.is_some() {
             fail(format!(
                 "decimate {input} {taps} {factor}: it says {:?} and complains {:?}",

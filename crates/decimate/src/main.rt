@@ -6,6 +6,7 @@ mod wave_in;
 use blocks::Plan;
 use blocks::Thinned;
 use file_status::FileStatus;
+use little_endian::part;
 use program::arguments;
 use program::arguments::Arguments;
 use program::arguments::DONE;
@@ -19,6 +20,7 @@ use program::output::InUse;
 use program::output::Output;
 use program::streams;
 use program::wave;
+use std::num::wrapping_add_usize;
 use text::Number;
 use text::put_counted;
 use wave_in::Signal;
@@ -60,7 +62,7 @@ fn summarise(count: u64, rate: u64, factor: u64, outputs: u64) -> bool {
     let d = put_counted(&mut line, c, b": ", outputs);
     let e = put_counted(&mut line, d, b" samples at ", thinned_rate(rate, factor));
     let end = text::put(&mut line, e, b" Hz\n");
-    io::write_all(libc::STDOUT_FILENO, little_endian::part(&line, 0, end))
+    io::write_all(libc::STDOUT_FILENO, part(&line, 0, end))
 }
 
 // What was written, or what is wrong, and the status.
@@ -178,24 +180,25 @@ fn run_into(given: Arguments, input: &[u8], taps: &[u8], factor: usize) -> u8 {
     run(input, taps, factor, &output[..n])
 }
 
+// A word that is no factor, by itself, or by what it stands for where there is none to show.
+fn refuse_factor(word: &[u8], words: &[u8]) -> u8 {
+    if word.len() == 0 {
+        complain(b"decimate", b"FACTOR", words);
+    } else {
+        complain(b"decimate", word, words);
+    }
+    WRONG
+}
+
 fn run_by_factor(given: Arguments, input: &[u8], taps: &[u8]) -> u8 {
-    let mut word = io::buffer();
-    let n = arguments::path_at(b"decimate", given, 2, b"FACTOR", &mut word);
-    let factor = factor_of(&word[..n]);
+    let mut bytes = io::buffer();
+    let n = os::arg(wrapping_add_usize(given.first, 2), &mut bytes);
+    let word = part(&bytes, 0, n);
+    let factor = factor_of(word);
     match factor {
         Factor::Of(k) => run_into(given, input, taps, k),
-        Factor::TooHigh => {
-            complain(
-                b"decimate",
-                &word[..n],
-                b"refused 17: the factor exceeds 64",
-            );
-            WRONG
-        }
-        Factor::NoNumber => {
-            complain(b"decimate", &word[..n], b"the factor is no whole number");
-            WRONG
-        }
+        Factor::TooHigh => refuse_factor(word, b"refused 17: the factor exceeds 64"),
+        Factor::NoNumber => refuse_factor(word, b"the factor is no whole number"),
     }
 }
 
