@@ -4,8 +4,10 @@
 use crate::console::{Call, Console, BLOCK, SCRATCH, TRACE, WORK};
 use crate::machine::{END, MOST_EVENTS, MOST_REPLAYED};
 use comparison::common::Random;
+use comparison::events::rank;
 use comparison::instrument::Instrument;
 use comparison::instruments::{self, pick, Size};
+use comparison::model::Event;
 
 /// What a list is mostly made of.
 #[derive(Clone, Copy, PartialEq, Eq, Debug)]
@@ -28,9 +30,20 @@ pub enum Theme {
     End,
 }
 
+/// How often an event was inserted at the position of one of another kind.
+#[derive(Clone, Copy, Default)]
+pub struct Ties {
+    pub all: u64,
+    /// Ahead of one that was there, which acted first by the order of adding.
+    pub ahead: u64,
+    /// A strike and a release or a hand damp of its key: here the order is heard.
+    pub heard: u64,
+}
+
 pub struct List {
     pub instrument: Instrument,
     pub script: String,
+    pub ties: Ties,
 }
 
 /// No list but those of theme Far and Large goes further: every answer takes a render from silence.
@@ -44,6 +57,31 @@ struct Writer<'a> {
     /// It knows what every line does to the session; it renders nothing here.
     console: Console<'a>,
     script: String,
+    ties: Ties,
+}
+
+impl Ties {
+    fn add(&mut self, other: Ties) {
+        self.all += other.all;
+        self.ahead += other.ahead;
+        self.heard += other.heard;
+    }
+}
+
+/// What an insert of the event would add to the ties.
+fn tied(score: &[(u64, Event)], q: u64, event: &Event) -> Ties {
+    let others: Vec<&Event> = score.iter().filter(|(p, x)| *p == q && rank(x) != rank(event)).map(|(_, x)| x).collect();
+    let ahead: Vec<&&Event> = others.iter().filter(|x| rank(x) > rank(event)).collect();
+    let heard = ahead.iter().any(|x| matches!(x, Event::NoteOn { .. }) && key_of(x) == key_of(event));
+    Ties { all: !others.is_empty() as u64, ahead: !ahead.is_empty() as u64, heard: heard as u64 }
+}
+
+/// The key that a strike, a release or a hand damp is for.
+fn key_of(event: &Event) -> Option<u8> {
+    match event {
+        Event::NoteOn { key, .. } | Event::NoteOff { key } | Event::HandDamp { key } => Some(*key),
+        Event::Pedal(_) => None,
+    }
 }
 
 impl Writer<'_> {
@@ -71,7 +109,10 @@ impl Writer<'_> {
             Call::Play(m) => machine.play(lent, m),
             Call::Cue => machine.cue(lent),
             Call::Go(p) => machine.go(lent, p).map(|_| ()),
-            Call::Insert(q, event) => machine.insert(lent, q, event).map(|_| ()),
+            Call::Insert(q, event) => {
+                let tied = tied(&machine.score, q, &event);
+                machine.insert(lent, q, event).map(|_| self.ties.add(tied))
+            }
             Call::Remove(i) => machine.remove(lent, i).map(|_| ()),
             Call::LendScratch(n) => Ok(lent.scratch = n as usize),
             Call::LendTrace(n) => Ok(lent.trace = n as usize),
@@ -151,16 +192,38 @@ impl Writer<'_> {
 
     // ---- lines
 
-    fn insert_at(&mut self, q: u64) {
-        let key = self.key();
-        let line = match self.random.below(12) {
-            0 | 1 => format!("insert {q} off {key}"),
-            2 => format!("insert {q} pedal down"),
-            3 => format!("insert {q} pedal up"),
-            4 => format!("insert {q} hand {key}"),
+    /// An event of the kind that a rank names.
+    fn insert_of(&mut self, q: u64, rank: u8, key: u8) {
+        let line = match rank {
+            0 => format!("insert {q} off {key}"),
+            1 => format!("insert {q} hand {key}"),
+            2 => format!("insert {q} pedal {}", pick(self.random, &["down", "up"])),
             _ => format!("insert {q} on {key} {}", self.velocity()),
         };
         self.line(line);
+    }
+
+    fn insert_at(&mut self, q: u64) {
+        let key = self.key();
+        let rank = pick(self.random, &[0, 0, 1, 2, 2, 3, 3, 3, 3, 3, 3, 3]);
+        self.insert_of(q, rank, key);
+    }
+
+    /// An event beside one of another kind at its position, mostly for its key.
+    fn tie(&mut self) {
+        let score = &self.console.machine.score;
+        let near: Vec<usize> = (0..score.len()).filter(|i| score[*i].0 <= NEAR).collect();
+        if near.is_empty() {
+            return self.insert();
+        }
+        let (q, event) = score[pick(self.random, &near)].clone();
+        let others: Vec<u8> = (0..4).filter(|other| *other != rank(&event)).collect();
+        let other = pick(self.random, &others);
+        let key = match key_of(&event) {
+            Some(key) if !self.chance(5) => key,
+            _ => self.key(),
+        };
+        self.insert_of(q, other, key);
     }
 
     fn insert(&mut self) {
@@ -296,7 +359,8 @@ impl Writer<'_> {
             }
             7..=9 => self.line("cue".to_string()),
             10..=12 => self.go(),
-            13..=17 => self.insert(),
+            13..=15 => self.insert(),
+            16..=17 => self.tie(),
             _ => self.remove(),
         }
     }
@@ -313,13 +377,16 @@ impl Writer<'_> {
 
     // ---- lists
 
-    /// A note or two from the start, so that something sounds.
+    /// A note or two from the start, so that something sounds; at every other list something at the same position as one.
     fn prelude(&mut self) {
         for _ in 0..1 + self.random.below(3) {
             let q = self.random.below(40);
             let key = pick(self.random, &self.keys);
             let velocity = self.random.between(1.0, 7.0);
             self.line(format!("insert {q} on {key} {velocity:.3}"));
+        }
+        if self.chance(2) {
+            self.tie();
         }
     }
 
@@ -355,10 +422,10 @@ impl Writer<'_> {
         }
         for _ in 0..4 + self.random.below(8) {
             let q = self.place();
-            if self.chance(3) {
-                self.remove();
-            } else {
-                self.insert_at(q);
+            match self.random.below(6) {
+                0 | 1 => self.remove(),
+                2 => self.tie(),
+                _ => self.insert_at(q),
             }
             self.state();
             match self.random.below(3) {
@@ -489,13 +556,14 @@ fn instrument_for(random: &mut Random, theme: Theme) -> Instrument {
 
 pub fn list(random: &mut Random, theme: Theme) -> List {
     let instrument = instrument_for(random, theme);
-    let script = {
+    let (script, ties) = {
         let mut writer = Writer {
             keys: instrument.keys.iter().map(|k| k.key).collect(),
             strings: instrument.string_count() as u64,
             cells: instrument.cells() as u64,
             console: Console::open(&instrument),
             script: String::new(),
+            ties: Ties::default(),
             random,
         };
         if theme != Theme::End && !writer.chance(10) {
@@ -519,7 +587,7 @@ pub fn list(random: &mut Random, theme: Theme) -> List {
         if writer.chance(6) {
             writer.script.pop(); // a last line need not end
         }
-        writer.script
+        (writer.script, writer.ties)
     };
-    List { instrument, script }
+    List { instrument, script, ties }
 }

@@ -1,6 +1,7 @@
 //! Document 01, "The session": the plain machine, a score, a position and at most four cue positions; and the
 //! standing score's render by the Rust, always one unbroken run from silence.
 
+use comparison::events::placed;
 use comparison::instrument::Instrument;
 use comparison::model::Event;
 use std::collections::{BTreeSet, HashMap};
@@ -124,8 +125,8 @@ impl Machine {
             (12, self.score.len() == MOST_EVENTS),
             (13, velocity_is_wrong(&event)),
         ])?;
-        let place = self.score.iter().filter(|(position, _)| *position <= q).count();
-        self.score.insert(place, (q, event));
+        self.score.push((q, event));
+        self.score = placed(&self.score);
         Ok(self.edited(q))
     }
 

@@ -6,7 +6,7 @@
 mod stored_renders;
 
 use comparison::common::{alike, all_alike, Random};
-use comparison::events::opened;
+use comparison::events::{opened, placed};
 use comparison::gingerfile::{Console, PIANO};
 use comparison::instrument::Instrument;
 use comparison::instruments::{self, pick, Size};
@@ -79,7 +79,7 @@ fn event(random: &mut Random, keys: &[u8]) -> Event {
     }
 }
 
-/// Positions that do not fall, many of them equal; a few lie past the render's end.
+/// Positions that do not fall, many of them equal, with kinds in any order; a few lie past the render's end.
 fn score(random: &mut Random, keys: &[u8], samples: u64) -> Vec<(usize, Event)> {
     let count = if random.below(10) == 0 { 64 } else { 1 + random.below(12) };
     let span = pick(random, &[1, 40, samples / 2 + 1, samples + 10]);
@@ -198,7 +198,8 @@ fn first_difference(what: &str, rust: &[f64], rattle: &[f64]) -> Option<String> 
 /// What stands in cells that no one may write.
 const UNTOUCHED: f64 = 4242.0;
 
-/// Each block on the proved side, then the Rust's unbroken render up to the block's end.
+/// Each block on the proved side, with the events inserted as they were drawn, then the Rust's unbroken render of their score
+/// up to the block's end.
 fn differs(
     counts: &mut Counts,
     instrument: &Instrument,
@@ -209,6 +210,7 @@ fn differs(
         Ok(console) => console,
         Err(refusal) => return Some(refusal.to_string()),
     };
+    let score = placed(events);
     let cells = instrument.cells();
     let (mut t, mut forces) = (0, 0);
     for &length in blocks {
@@ -219,7 +221,7 @@ fn differs(
         };
         let part = &console.work()[..cells];
         let mut rust = instrument.piano();
-        let samples = rust.render(t + length, events);
+        let samples = rust.render(t + length, &score);
         let pushed = &rust.force_trace[forces..];
         let difference = if pushed.len() == found {
             first_difference("sample", &samples[t..], &out)

@@ -11,7 +11,7 @@ use comparison::common::{alike, word, Random};
 use comparison::waves::{floats, wave, HEADER};
 use comparison::{instrument, instruments};
 use console::Answer;
-use lists::{List, Theme};
+use lists::{List, Theme, Ties};
 use std::collections::BTreeMap;
 use std::fmt::Write as _;
 use std::fs;
@@ -34,6 +34,10 @@ const REFUSED_FILES: u64 = 40;
 
 /// How often each refusal from 8 to 16 must come.
 const EACH_REFUSAL: u64 = 100;
+
+/// One of so many lists at least must have events of different kinds at one position, and one of as many an event that
+/// went ahead of one that was added before it.
+const ONE_TIED_IN: u64 = 3;
 
 /// A stored list has no more samples.
 const STORED_SAMPLES: usize = 5_000;
@@ -192,7 +196,12 @@ struct Counts {
     sounding: u64,
     forces: u64,
     contacts: u64,
+    /// Lists with a tie, those in which an event went ahead by its kind, and those in which that is heard.
+    tied: [u64; 3],
 }
+
+/// The kind under which files that are refused are counted.
+const REFUSED_FILE: &str = "refused file";
 
 /// The refusal's number in an answer.
 fn refusal_in(answer: &str) -> Option<u8> {
@@ -221,6 +230,17 @@ impl Counts {
         self.contacts += answer.forces.iter().filter(|x| **x > 0.0).count() as u64;
     }
 
+    fn ties(&mut self, ties: Ties) {
+        for (lists, inserts) in self.tied.iter_mut().zip([ties.all, ties.ahead, ties.heard]) {
+            *lists += (inserts > 0) as u64;
+        }
+    }
+
+    /// The lists of calls, without the refused files.
+    fn of_calls(&self) -> u64 {
+        self.lists.iter().filter(|(theme, _)| *theme != REFUSED_FILE).map(|(_, count)| count).sum()
+    }
+
     fn report(&self) {
         for (theme, count) in &self.lists {
             println!("lists    {theme:<24} {count:>9}");
@@ -234,15 +254,23 @@ impl Counts {
         let (samples, sounding, wild) = (self.samples, self.sounding, self.wild_samples);
         println!("samples  {samples} compared, {sounding} not zero, {wild} infinite or NaN");
         println!("forces   {} compared, {} above zero", self.forces, self.contacts);
+        let (lists, [tied, ahead, heard]) = (self.of_calls(), self.tied);
+        println!("ties     {tied} of {lists} lists have events of different kinds at one position");
+        println!("         {ahead} with one that goes ahead of one added before it, {heard} for the key that this one strikes");
     }
 
-    /// Whether each refusal from 8 to 16 came often enough.
+    /// Whether each refusal from 8 to 16, and ties, came often enough.
     fn enough(&self) -> bool {
+        let [tied, ahead, _] = self.tied;
+        let few_ties = ONE_TIED_IN * tied.min(ahead) < self.of_calls();
+        if few_ties {
+            println!("too few ties: one list in {ONE_TIED_IN} is wanted");
+        }
         let rare: Vec<u8> = (8..=16).filter(|n| self.refusals.get(n).copied().unwrap_or(0) < EACH_REFUSAL).collect();
         if !rare.is_empty() {
             println!("too few of the refusals {rare:?}: each is wanted {EACH_REFUSAL} times");
         }
-        rare.is_empty()
+        rare.is_empty() && !few_ties
     }
 }
 
@@ -350,6 +378,7 @@ impl Comparison {
             self.differs(&made, &format!("list {turn} of {theme:?}:\n{}", list.script), difference);
         }
         add(&mut self.counts.lists, format!("{theme:?}"));
+        self.counts.ties(list.ties);
         self.counts.answer("open", &answers[0]);
         for (line, answer) in answered(&list, &answers) {
             self.counts.answer(&kind_of(line), answer);
@@ -368,7 +397,7 @@ impl Comparison {
         if let Some(difference) = answers_differ(&[answer], &made.answers) {
             self.differs(&made, &format!("file {turn} for refusal {number}:"), difference);
         }
-        add(&mut self.counts.lists, "refused file".to_string());
+        add(&mut self.counts.lists, REFUSED_FILE.to_string());
         add(&mut self.counts.refusals, refusal);
         if turn == 0 {
             self.sample.push(stored_refusal(&file, refusal));

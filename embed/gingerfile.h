@@ -19,7 +19,8 @@
    Refusals, of which a call tests those that concern it in this order:
 
     1 to 6  the file: table, chain, lengths, fields, over 32 strings, a key twice
-    7       the words are no session's on this instrument, or an event's numbers no event's
+    7       the words are no session's on this instrument, or an event's numbers no event's; words kept by a version that
+            placed events of one position by the order of adding may be none
     8       work memory has fewer cells than gingerfile_read says
     9       scratch has fewer cells than gingerfile_read says
    10       the trace is shorter than the output
@@ -51,7 +52,8 @@ enum {
     GINGERFILE_WORDS = 541,
     GINGERFILE_T = 0,
     GINGERFILE_COUNT = 1,
-    /* Events of 4 words: position, kind, key, and a strike's velocity by its bits. */
+    /* Events of 4 words: position, kind, key, and a strike's velocity by its bits. They stand by position; those of one
+       position by kind, a release first, then a hand damp, a pedal move and a strike; those of one kind as they were added. */
     GINGERFILE_EVENTS = 2,
     /* Cues of 57 words: 1 where one is kept, its position, its piano. */
     GINGERFILE_CUES = 258,
@@ -65,7 +67,7 @@ enum {
    which has its own needs beside them. */
 enum { GINGERFILE_STACK = 49152, GINGERFILE_THREAD = 65536 };
 
-/* Kinds of an event; the pedal's key is 1 for down, 0 for up. */
+/* Kinds of an event; the pedal's key is 1 for down, 0 for up. The numbers do not say which acts first. */
 enum { GINGERFILE_STRIKE = 0, GINGERFILE_RELEASE = 1, GINGERFILE_PEDAL = 2, GINGERFILE_HAND_DAMP = 3 };
 
 typedef struct {
@@ -108,7 +110,8 @@ gingerfile_report gingerfile_cue(const uint8_t *file, size_t file_length, uint64
 gingerfile_report gingerfile_go(const uint8_t *file, size_t file_length, uint64_t *words, size_t words_length, double *work,
                                size_t work_length, double *scratch, size_t scratch_length, uint64_t p);
 
-/* Places an event after all events at or before its position. `velocity` counts for a strike alone. Refuses 1 to 8 and 11 to 13. */
+/* Places an event after all of earlier position, and at its own position after those of its kind and of the kinds that act
+   before it. `velocity` counts for a strike alone. Refuses 1 to 8 and 11 to 13. */
 gingerfile_report gingerfile_insert(const uint8_t *file, size_t file_length, uint64_t *words, size_t words_length,
                                    double *work, size_t work_length, uint64_t position, uint64_t kind, uint64_t key,
                                    double velocity);

@@ -22,7 +22,8 @@ const PEAK_FORCE: usize = 540;
 /// them beside its own.
 pub const STACK: usize = 49_152;
 
-/// What a score has at a position. An event of a key that the instrument has not does nothing.
+/// What a score has at a position. At one position releases act first, then hand damps, pedal moves and strikes. An event of a
+/// key that the instrument has not does nothing.
 #[derive(Clone, Copy, Debug, PartialEq)]
 pub enum Event {
     /// A strike; the key's damper stays up until its release.
@@ -257,8 +258,21 @@ impl Console {
         Ok(library!(gingerfile_go, [file], [words, work, scratch], p).accepted()?.value)
     }
 
-    /// Places an event after all events at or before its position. Cues above it are dropped, and a position above it goes
-    /// back to the nearest cue, else to 0.
+    /// Places an event after all of earlier position, and at its own position after those of its kind and of the kinds that act
+    /// before it: so a key that is let go and struck at one position sounds, whichever was added first. Cues above it are
+    /// dropped, and a position above it goes back to the nearest cue, else to 0.
+    ///
+    /// ```
+    /// # fn main() -> Result<(), Box<dyn std::error::Error>> {
+    /// # use gingerfile::{Console, Event};
+    /// let mut console = Console::open(&std::fs::read("piano")?)?;
+    /// let (strike, release) = (Event::NoteOn { key: 60, velocity: 3.0 }, Event::NoteOff { key: 60 });
+    /// console.insert(480, strike)?;
+    /// console.insert(480, release)?;
+    /// assert!(console.events().eq([(480, release), (480, strike)]));
+    /// # Ok(())
+    /// # }
+    /// ```
     ///
     /// # Errors
     ///
@@ -318,7 +332,7 @@ impl Console {
         self.words[COUNT]
     }
 
-    /// The score: each event with its position, in the score's order.
+    /// The score: each event with its position, in the order in which they act.
     pub fn events(&self) -> impl Iterator<Item = (u64, Event)> + '_ {
         let events = self.words[EVENTS..CUES].chunks(EVENT).take(self.words[COUNT] as usize);
         events.map(|word| (word[0], Event::of_words(word[1], word[2], word[3])))

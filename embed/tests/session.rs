@@ -5,6 +5,10 @@ mod common;
 use common::{bits, instrument, play, Strings, LEAST, PIANO};
 use gingerfile::{decimate, decimate_into, decimated_length, Console, Edited, Event, Refusal, PIANO as NOW, T, WORDS};
 
+/// Where `gingerfile.h` has the events, and how many words each is.
+const EVENTS: usize = 2;
+const EVENT: usize = 4;
+
 const STRIKE: Event = Event::NoteOn { key: 60, velocity: 3.0 };
 
 /// A score of every kind of event, played past a cue.
@@ -100,6 +104,89 @@ fn a_session_tells_its_score_cues_and_counts() {
     assert_eq!(console.events().map(|(q, _)| q).collect::<Vec<_>>(), [0, 50, 2_000, 3_000]);
     assert_eq!(console.insert(20, Event::Pedal(false)).unwrap(), Edited { t: 0, dropped: 1 });
     assert_eq!((console.cues().count(), console.contact_samples(), console.peak_force()), (0, 0, 0.0));
+}
+
+/// Where a kind stands among the events of its position.
+fn rank(event: &Event) -> usize {
+    match event {
+        Event::NoteOff { .. } => 0,
+        Event::HandDamp { .. } => 1,
+        Event::Pedal(_) => 2,
+        Event::NoteOn { .. } => 3,
+    }
+}
+
+/// 64 events at eight positions: the score is what sorting them by position and kind gives, those of one kind in the order of
+/// adding.
+#[test]
+fn events_of_one_position_stand_by_their_kinds() {
+    for turn in 0u64..40 {
+        let mut console = Console::open(PIANO).unwrap();
+        let mut sorted = Vec::new();
+        let mut bits = turn;
+        for i in 0..64u8 {
+            bits = bits.wrapping_mul(6_364_136_223_846_793_005).wrapping_add(1_442_695_040_888_963_407);
+            let position = bits >> 33 & 3 | (bits >> 40 & 1) << 30;
+            let event = match bits >> 50 & 3 {
+                0 => Event::NoteOn { key: i, velocity: 1.0 },
+                1 => Event::NoteOff { key: i },
+                2 => Event::Pedal(bits >> 60 & 1 == 1),
+                _ => Event::HandDamp { key: i },
+            };
+            console.insert(position, event).unwrap();
+            sorted.push((position, event));
+        }
+        sorted.sort_by_key(|(position, event)| (*position, rank(event)));
+        assert_eq!(console.events().collect::<Vec<_>>(), sorted);
+    }
+}
+
+/// A note that is struck again where it is let go: it sounds, whichever of the two is added first.
+#[test]
+fn a_repeated_note_is_not_muted() {
+    let again = Event::NoteOn { key: 60, velocity: 2.0 };
+    let release = Event::NoteOff { key: 60 };
+    let played = |first: Event, second: Event| {
+        let mut console = Console::open(PIANO).unwrap();
+        console.insert(0, STRIKE).unwrap();
+        console.insert(6_000, first).unwrap();
+        console.insert(6_000, second).unwrap();
+        assert_eq!(console.events().collect::<Vec<_>>(), [(0, STRIKE), (6_000, release), (6_000, again)]);
+        console.go(6_000).unwrap();
+        let out = play(&mut console, 20_000).unwrap();
+        let energy = console.energies().unwrap()[4];
+        (out, energy)
+    };
+    let (release_first, (key, energy)) = played(release, again);
+    assert_eq!(played(again, release), (release_first, (key, energy)));
+
+    let mut muted = Console::open(PIANO).unwrap();
+    muted.insert(0, STRIKE).unwrap();
+    muted.insert(6_000, again).unwrap();
+    muted.insert(6_001, release).unwrap();
+    muted.go(26_000).unwrap();
+    let (_, damped) = muted.energies().unwrap()[4];
+    assert!(key == 60 && energy > 100.0 * damped, "{energy} beside {damped}");
+}
+
+/// Kept words whose events break the order are no session's; with the two events changed about they are.
+#[test]
+fn words_that_break_the_order_are_refused() {
+    let mut console = rehearsed();
+    console.insert(2_000, Event::NoteOn { key: 60, velocity: 2.0 }).unwrap();
+    let kept = console.words().to_vec();
+    let at = EVENTS + 3 * EVENT;
+    let kinds = |words: &[u64]| [words[at + 1], words[at + EVENT + 1]];
+    assert_eq!(kinds(&kept), [1, 0], "a release, then a strike");
+    let mut changed = kept.clone();
+    changed[at..at + 2 * EVENT].rotate_left(EVENT);
+    assert_eq!(kinds(&changed), [0, 1]);
+    refused(&mut console, Refusal::RECORD, |c| c.set_words(&changed));
+    assert_eq!(Console::restore(PIANO, &changed, console.work()).map(|_| ()), Err(Refusal::RECORD));
+    // as a strike at 2,000 and a release one sample later they pass, and so do those that were kept
+    changed[at + EVENT] += 1;
+    console.set_words(&changed).unwrap();
+    console.set_words(&kept).unwrap();
 }
 
 #[test]

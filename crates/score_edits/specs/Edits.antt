@@ -1,9 +1,10 @@
--- Document 01, "The session": insert goes "after all events at or before its position q"; remove takes "the event at an index from 0, of position q". Refusals 7 and 13: "a position
--- that falls or is above that end, a velocity of 13". Definitions only: assumes nothing.
+-- Document 02, W1: "Insert now goes after all events of earlier position and after those of its position and same or earlier kind"; "A session record whose events break this order
+-- falls under 7." Document 01, "The session": remove takes "the event at an index from 0, of position q"; refusals 7 and 13: "a position that falls or is above that end, a velocity
+-- of 13". Definitions only: assumes nothing.
 use mathlib.Core.Bool.{Bool, true, cond, _&&_}
 use mathlib.Core.List.{List, [], _∷_}
-use Prim.Native.Nat.{ℕ, zero, suc}
-use lib.Dec.{leb}
+use Prim.Native.Nat.{ℕ, zero, suc, _≤_}
+use lib.Dec.{eqb, leb, ltb}
 use lib.Ieee.{Float, le, neg, ofInt, binary64}
 use lib.IntN.{pos}
 use Rattle.score.specs.declared.Event.{Event}
@@ -11,9 +12,21 @@ use Rattle.score.specs.declared.Event.the-variants.{NoteOn, NoteOff, Pedal, Han
 use Rattle.score.specs.declared.TimedEvent.{TimedEvent}
 use Rattle.positions.specs.Positions.{end}
 
--- the one order of a score: whether x may stand before y
+-- "at one position a release acts first, then a hand damp, a pedal move and a strike"
+unfoldable pub rankOf : Event → ℕ
+rankOf (NoteOff k) = 0
+rankOf (HandDamp k) = 1
+rankOf (Pedal d) = 2
+rankOf (NoteOn k v) = 3
+
+-- the one order of a score: whether x may stand before y, by position, and at one position by rank
 unfoldable pub mayPrecede : TimedEvent → TimedEvent → Bool
-mayPrecede x y = leb (x .position) (y .position)
+mayPrecede x y = cond (eqb (x .position) (y .position)) (leb (rankOf (x .event)) (rankOf (y .event))) (ltb (x .position) (y .position))
+
+-- ranks that do not fall, and none is below `from`
+unfoldable pub RisingRanks : ℕ → List Event → Type 0
+RisingRanks from [] = Unit {0}
+RisingRanks from (e ∷ es) = (from ≤ rankOf e) × RisingRanks (rankOf e) es
 
 -- after all events that may precede it
 unfoldable pub placed : List TimedEvent → TimedEvent → List TimedEvent

@@ -3,18 +3,38 @@ ghost use mathlib.Core.Path.{_≡_};
 ghost use mathlib.Core.List.{_++_};
 ghost use Prim.Native.Nat.{_+_, _-_, _≤_, _<_};
 ghost use lib.ListN.{take, drop};
-ghost use Rattle.score_edits.specs.Edits.{mayPrecede, soundVelocity, soundEvent, soundScore, placeOf, placed, removed};
+ghost use Rattle.score_edits.specs.Edits.{rankOf, mayPrecede, soundVelocity, soundEvent, soundScore, placeOf, placed, removed};
 use score::Event;
 use score::TimedEvent;
 
 // No position lies above the end (refusal 11).
 pub const END: u64 = 2000000000;
 
-// Whether x may stand before y in a score.
+// Where an event's kind stands among those of its position: a release acts first, a strike last. The kind's number that crosses to C is another.
+fn rank_of(event: Event) -> u64
+    ensures { λ r. ⌜ r ≡ rankOf event ⌝ }
+{
+    match event {
+        Event::NoteOn {
+            key: _,
+            velocity: _,
+        } => 3,
+        Event::NoteOff { key: _ } => 0,
+        Event::Pedal(_) => 2,
+        Event::HandDamp { key: _ } => 1,
+    }
+}
+
+// Whether x may stand before y in a score. Positions are compared as they are: fields are open, and no sum of position and rank would fit.
 fn may_precede(x: TimedEvent, y: TimedEvent) -> bool
     ensures { λ r. ⌜ r ≡ mayPrecede x y ⌝ }
 {
-    x.position <= y.position
+    if x.position == y.position {
+        let first = x.event;
+        let second = y.event;
+        return rank_of(first) <= rank_of(second);
+    }
+    x.position < y.position
 }
 
 // Whether a strike's velocity is no NaN and from −100 to 100.
@@ -37,7 +57,7 @@ fn is_sound_event(timed: TimedEvent) -> bool
     (timed.position <= END) & velocity
 }
 
-// Whether no position falls or lies above the end, and every velocity is sound. The first event may stand before itself.
+// Whether the events keep the order, no position lies above the end, and every velocity is sound. The first event may stand before itself.
 pub fn is_sound_score(events: [TimedEvent; 64], count: usize) -> bool
     requires { ⌜ count ≤ 64 ⌝ }
     ensures { λ r. ⌜ r ≡ soundScore (take count events) ⌝ }

@@ -14,7 +14,7 @@ use Rattle.render.specs.Render.{silentPiano, silence}
 use Rattle.positions.specs.Positions.{count}
 use Rattle.positions.specs.Laws.{true-or-false}
 use Rattle.machine.specs.Machine.{Machine, Call, Reply, opened, does, final, replies}
-use Rattle.score_edits.specs.Laws.{sound-walk}
+use Rattle.score_edits.specs.Laws.{sound-walk, sound-ranks}
 use Rattle.machine.specs.Laws.{sound-opened, sound-final, allowed-does, go-replays, replies-at, replies-length}
 use Rattle.session_cues.specs.Cues.{keptOf}
 use Rattle.session_record.specs.declared.Session.{Session}
@@ -88,7 +88,7 @@ opened-stands i work work′ r h e =
 
 -- For every instrument and work memory with which open is accepted, and for every list of calls run from there, each by its function's contract: the replies are the plain
 -- machine's, the program's session and memory are the plain machine's, every refusal is from 9 to 16, each accepted go replays no more than it must, and the events that act on a
--- sample are those of document 01's rule.
+-- sample are those of document 01's rule, in the order of document 02's W1.
 pub demand-3 : (i : Instrument) (work work′ : List Float) (r : Outcome) → OpenMeets i work r work′ → r .answer ≡ Opened
     → {cs : List Call} {rs : List Reply} {s : Session} {work″ : List Float} → Runs i (r .session) work′ cs rs s work″ → Claim i cs rs s work″
 demand-3 i work work′ r h e {cs} {rs} t =
@@ -101,4 +101,5 @@ demand-3 i work work′ r h e {cs} {rs} t =
       allowed = λ k l. rw (reply k (omega (arith, l, ap length (u .0), replies-length i opened cs))) (allowed-does i (standing i cs k) (getD cs k Call.cue));
       replayed = λ k scratch p n l c f. go-replays i (standing i cs k) scratch p n (ap (λ x. does i (standing i cs k) x .1) (sym c) ∙ sym (reply k l) ∙ f);
       walked = λ k t. sound-walk (standing i cs k .score) t (sound-final i opened (take k cs) sound-opened .score);
+      ranked = λ k t. sound-ranks (standing i cs k .score) t (sound-final i opened (take k cs) sound-opened .score);
     }

@@ -11,6 +11,7 @@ use Rattle.score.specs.Score.{eventsAt}
 use Rattle.score.specs.Due.{due, leftAt}
 use Rattle.render.specs.Render.{renderState}
 use Rattle.positions.specs.Positions.{Same}
+use Rattle.score_edits.specs.Edits.{RisingRanks}
 use Rattle.machine.specs.Machine.{Machine, Call, Reply, opened, final, replies}
 use Rattle.machine.specs.Laws.{Allowed, Replayed}
 use Rattle.session_record.specs.declared.Session.{Session}
@@ -71,3 +72,5 @@ pub record Claim (i : Instrument) (cs : List Call) (rs : List Reply) (s : Sessio
   -- "by 01's rules for one sample", of which the first is "events whose position is not above t": the events that act on sample t of a standing score are those that a walk over it
   -- applies at t, having applied the earlier ones before
   pub walked : (k t : ℕ) → eventsAt (standing i cs k .score) t ≡ due t (leftAt (standing i cs k .score) t)
+  -- "at one position a release acts first, then a hand damp, a pedal move and a strike": the ranks of the events that act on sample t do not fall
+  pub ranked : (k t : ℕ) → RisingRanks 0 (eventsAt (standing i cs k .score) t)

@@ -123,11 +123,15 @@ fn try_calls(name: &[u8], instrument: Instrument, session: Session) {
 fn try_scores(i: Instrument, s: Session) {
     try_calls(b"t above the end", i, records::at(s, 2_000_000_001));
     try_calls(b"65 events", i, records::with_count(s, 65));
-    try_calls(b"a position that falls", i, records::with_events(s, 9, 8));
+    try_calls(
+        b"a position that falls",
+        i,
+        records::with_ranks(s, 9, 0, 8, 3),
+    );
     try_calls(
         b"a position above the end",
         i,
-        records::with_events(s, 0, 2_000_000_001),
+        records::with_ranks(s, 0, 2, 2_000_000_001, 2),
     );
     try_calls(
         b"a velocity of NaN",
@@ -140,6 +144,30 @@ fn try_scores(i: Instrument, s: Session) {
         i,
         records::with_velocity(s, -1.0 / 0.0),
     );
+}
+
+// A kind ahead of each at one position: wrong where the second acts first.
+fn try_ahead(i: Instrument, s: Session, first: u64) {
+    for second in 0u64..4u64 {
+        say(b"", first);
+        say(b" ahead of ", second);
+        try_calls(
+            b" at one position",
+            i,
+            records::with_ranks(s, 8, first, 8, second),
+        );
+    }
+}
+
+fn try_orders(i: Instrument, s: Session) {
+    io::write_all(
+        STDOUT_FILENO,
+        b"ranks: 0 a release, 1 a hand damp, 2 a pedal move, 3 a strike\n",
+    );
+    try_ahead(i, s, 0);
+    try_ahead(i, s, 1);
+    try_ahead(i, s, 2);
+    try_ahead(i, s, 3);
 }
 
 // The hammer and the count of contacts, in the piano now.
@@ -197,6 +225,11 @@ fn try_right(i: Instrument, s: Session) {
     try_calls(b"slots that keep nothing", i, records::with_wild_slots(s));
     try_calls(b"a contact count of t", i, records::with_contacts(s, 10));
     try_calls(b"a hammer on the last key", i, records::with_hammer(s, 7));
+    try_calls(
+        b"a strike, then a release",
+        i,
+        records::with_ranks(s, 8, 3, 9, 0),
+    );
 }
 
 // A session at 10 that keeps nothing.
@@ -216,6 +249,7 @@ fn main() {
     let s = right_session(i);
     try_right(i, s);
     try_scores(i, s);
+    try_orders(i, s);
     try_pianos(i, s);
     try_cues(i, s);
     try_instruments(i, s);

@@ -20,17 +20,34 @@ pub fn with_count(session: Session, count: usize) -> Session {
     s
 }
 
-// Two pedal moves, at p and q.
-pub fn with_events(session: Session, p: u64, q: u64) -> Session {
+// An event of the kind that acts in this place at its position: 0 a release, 1 a hand damp, 2 a pedal move, 3 a strike.
+fn of_rank(rank: u64) -> Event {
+    if rank == 0 {
+        return Event::NoteOff { key: 60 };
+    }
+    if rank == 1 {
+        return Event::HandDamp { key: 60 };
+    }
+    if rank == 2 {
+        return Event::Pedal(true);
+    }
+    Event::NoteOn {
+        key: 60,
+        velocity: 1.0,
+    }
+}
+
+// Two events of these ranks, at p and q.
+pub fn with_ranks(session: Session, p: u64, first: u64, q: u64, second: u64) -> Session {
     let mut s = session;
     s.count = 2;
     s.events[0] = TimedEvent {
         position: p,
-        event: Event::Pedal(true),
+        event: of_rank(first),
     };
     s.events[1] = TimedEvent {
         position: q,
-        event: Event::Pedal(false),
+        event: of_rank(second),
     };
     s
 }
