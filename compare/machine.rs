@@ -1,7 +1,7 @@
 //! Document 01, "The session": the plain machine, a score, a position and at most four cue positions; and the
 //! standing score's render by the Rust, always one unbroken run from silence.
 
-use comparison::events::placed;
+use comparison::events::in_order;
 use comparison::instrument::Instrument;
 use comparison::model::Event;
 use std::collections::{BTreeSet, HashMap};
@@ -126,7 +126,7 @@ impl Machine {
             (13, velocity_is_wrong(&event)),
         ])?;
         self.score.push((q, event));
-        self.score = placed(&self.score);
+        self.score = in_order(&self.score);
         Ok(self.edited(q))
     }
 

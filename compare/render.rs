@@ -6,7 +6,7 @@
 mod stored_renders;
 
 use comparison::common::{alike, all_alike, Random};
-use comparison::events::{opened, placed};
+use comparison::events::{in_order, opened};
 use comparison::gingerfile::{Console, PIANO};
 use comparison::instrument::Instrument;
 use comparison::instruments::{self, pick, Size};
@@ -210,7 +210,7 @@ fn differs(
         Ok(console) => console,
         Err(refusal) => return Some(refusal.to_string()),
     };
-    let score = placed(events);
+    let score = in_order(events);
     let cells = instrument.cells();
     let (mut t, mut forces) = (0, 0);
     for &length in blocks {

@@ -32,7 +32,7 @@ pub fn rank(event: &Event) -> u8 {
 }
 
 /// The score that inserting these events in their order gives: by position and rank, those of one kind as they were added.
-pub fn placed<P: Copy + Ord>(events: &[(P, Event)]) -> Vec<(P, Event)> {
+pub fn in_order<P: Copy + Ord>(events: &[(P, Event)]) -> Vec<(P, Event)> {
     let mut score = events.to_vec();
     score.sort_by_key(|(position, event)| (*position, rank(event)));
     score

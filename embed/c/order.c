@@ -52,12 +52,14 @@ static int calls_give(uint64_t refusal)
     memcpy(words_before, words, sizeof words);
     memcpy(work_before, work, sizeof work);
     for (int which = 0; which < 6; which++) {
-        out[0] = trace[0] = 0.5;
+        for (int i = 0; i < COUNT; i++)
+            out[i] = trace[i] = 0.5;
         check(call(which) == refusal, refusal == 0 ? "words in order are refused" : "words out of order are not refused as 7");
+        for (int i = 0; refusal != 0 && i < COUNT; i++)
+            check(out[i] == 0.5 && trace[i] == 0.5, "a refused call has written output or trace");
         if (refusal != 0)
-            check(memcmp(words, words_before, sizeof words) == 0 && memcmp(work, work_before, sizeof work) == 0 && out[0] == 0.5 &&
-                      trace[0] == 0.5,
-                  "a refused call has written something");
+            check(memcmp(words, words_before, sizeof words) == 0 && memcmp(work, work_before, sizeof work) == 0,
+                  "a refused call has written words or work memory");
         memcpy(words, words_before, sizeof words);
         memcpy(work, work_before, sizeof work);
     }
