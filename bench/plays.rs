@@ -6,7 +6,7 @@ use comparison::exports::{self, Lent};
 use comparison::gingerfile::Console;
 use comparison::instrument::Instrument;
 
-pub struct Played {
+pub struct Plays {
     pub file: Vec<u8>,
     pub console: Console,
     /// The words of its session, before the first play.
@@ -16,10 +16,10 @@ pub struct Played {
     pub trace: Vec<f64>,
 }
 
-impl Played {
-    pub fn new(instrument: &Instrument, samples: usize) -> Played {
+impl Plays {
+    pub fn new(instrument: &Instrument, samples: usize) -> Plays {
         let console = opened(instrument, &strikes(2, samples)).unwrap();
-        Played {
+        Plays {
             file: instrument.bytes(),
             words: console.words().to_vec(),
             console,
@@ -36,7 +36,7 @@ impl Played {
 
     /// Plays of `block`, each over the one before; it gives the forces of the last, which stands first in the output.
     pub fn plays(&mut self, block: usize) -> u64 {
-        let Played { file, words, console, scratch, out, trace } = self;
+        let Plays { file, words, console, scratch, out, trace } = self;
         let blocks = (out.len() / block) as u64;
         let (out, trace) = (&mut out[..block], &mut trace[..block]);
         exports::plays(file, words, blocks, Lent { work: console.work_mut(), scratch, out, trace })

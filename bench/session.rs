@@ -11,10 +11,10 @@ use comparison::gingerfile::Console;
 use comparison::instrument::Instrument;
 use grand::instrument;
 use measure::{measure, report_sides, Measured};
-use plays::Played;
+use plays::Plays;
 
 struct Sides {
-    played: Played,
+    played: Plays,
     cells: usize,
     /// The words of a session at 150 that keeps a cue at 100.
     cued: Vec<u64>,
@@ -26,7 +26,7 @@ impl Sides {
         cued.go(100).unwrap();
         cued.cue().unwrap();
         cued.go(150).unwrap();
-        let played = Played::new(instrument, samples);
+        let played = Plays::new(instrument, samples);
         Sides { played, cells: instrument.cells(), cued: cued.words().to_vec() }
     }
 
@@ -36,14 +36,14 @@ impl Sides {
 
     /// The renderer alone, all samples in one block.
     fn render(&mut self) -> u64 {
-        let Played { file, words, console, scratch, out, trace } = &mut self.played;
+        let Plays { file, words, console, scratch, out, trace } = &mut self.played;
         exports::render(file, words, Lent { work: console.work_mut(), scratch, out, trace })
     }
 
     /// One play and one go of all samples, through the library.
     fn play(&mut self) -> u64 {
-        let Played { console, out, trace, .. } = &mut self.played;
-        console.play(out, trace).unwrap() as u64
+        let Plays { console, out, trace, .. } = &mut self.played;
+        console.play(out, trace).unwrap().forces as u64
     }
 
     fn go(&mut self) -> u64 {
@@ -51,12 +51,12 @@ impl Sides {
     }
 
     fn cue(&mut self, times: u64) -> u64 {
-        let Played { file, words, console, .. } = &mut self.played;
+        let Plays { file, words, console, .. } = &mut self.played;
         exports::cues(file, words, times, console.work_mut())
     }
 
     fn edit(&mut self, times: u64) -> u64 {
-        let Played { file, console, .. } = &mut self.played;
+        let Plays { file, console, .. } = &mut self.played;
         exports::inserts(file, &self.cued, 120, times, console.work_mut())
     }
 

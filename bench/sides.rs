@@ -2,18 +2,18 @@
 #![allow(dead_code)]
 
 use comparison::common::all_alike;
-use comparison::events::{opened, published_event};
+use comparison::events::{opened, published_event, timed_event};
 use comparison::gingerfile::{Console, T};
 use comparison::instrument::Instrument;
-use comparison::model::{Event, Piano};
-use comparison::published;
+use comparison::model::Event;
+use comparison::{published, timed};
 
 /// All sides of one row.
 pub struct Sides {
     instrument: Instrument,
-    events: Vec<(usize, Event)>,
+    events: Vec<(usize, timed::Event)>,
     published_events: Vec<(usize, published::Event)>,
-    rust: Piano,
+    rust: timed::Piano,
     published: published::Piano,
     /// What the Rust gave.
     rendered: Vec<f64>,
@@ -33,8 +33,8 @@ impl Sides {
         words[T] = t;
         Sides {
             published_events: events.iter().map(|(q, event)| (*q, published_event(event))).collect(),
-            events,
-            rust: instrument.piano(),
+            events: events.iter().map(|(q, event)| (*q, timed_event(event))).collect(),
+            rust: instrument.timed_piano(),
             published: instrument.published_piano(),
             rendered: Vec::new(),
             console,
@@ -46,7 +46,7 @@ impl Sides {
     }
 
     pub fn ready(&mut self) {
-        self.rust = self.instrument.piano();
+        self.rust = self.instrument.timed_piano();
         self.published = self.instrument.published_piano();
         self.rendered = Vec::new();
         self.console.set_words(&self.words).expect("a session's words");

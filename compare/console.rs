@@ -1,7 +1,7 @@
 //! The program `rehearse` in ordinary Rust: a script's lines, and their answers by the plain machine and the Rust's
 //! renders.
 
-use crate::machine::{Edited, Lent, Machine, Renders};
+use crate::machine::{Edited, Lent, Machine, Played, Renders};
 use comparison::instrument::Instrument;
 use comparison::model::Event;
 
@@ -88,12 +88,13 @@ pub fn call_of(words: &[&str]) -> Option<Call> {
     }
 }
 
-/// One line's answer, and what it played.
+/// One line's answer, what it played, and each key's contact samples where it tells them.
 #[derive(Default)]
 pub struct Answer {
     pub text: String,
     pub samples: Vec<f64>,
     pub forces: Vec<f64>,
+    pub key_contacts: Vec<usize>,
 }
 
 fn ok(text: String) -> Answer {
@@ -155,15 +156,17 @@ impl<'a> Console<'a> {
         let Machine { score, t, cues, .. } = &self.machine;
         let mark = self.renders.at(score, *t);
         let (contact, peak) = (mark.contact_samples, bits(mark.peak_force));
+        let keys: String = mark.key_contacts.iter().map(|n| format!(" {n}")).collect();
         let cues: String = cues.iter().map(|c| format!(" {c}")).collect();
-        ok(format!(" t {t} contact {contact} peak {peak} events {} cues{cues}", score.len()))
+        let answer = ok(format!(" t {t} contact {contact} keys{keys} peak {peak} events {} cues{cues}", score.len()));
+        Answer { key_contacts: mark.key_contacts, ..answer }
     }
 
     fn play(&mut self, m: u64) -> Result<Answer, u8> {
         let t = self.machine.t;
         self.machine.play(&self.lent, m)?;
-        let (samples, forces) = self.renders.block(&self.machine.score, t, m);
-        Ok(Answer { text: format!("ok {}", forces.len()), samples, forces })
+        let Played { samples, forces, contact_samples } = self.renders.play(&self.machine.score, t, m);
+        Ok(Answer { text: format!("ok {} {contact_samples}", forces.len()), samples, forces, ..Answer::default() })
     }
 
     fn energies(&mut self) -> Result<Answer, u8> {

@@ -44,6 +44,8 @@ pub struct List {
     pub instrument: Instrument,
     pub script: String,
     pub ties: Ties,
+    /// How many kept cues the last lines go back to, a go and a state each.
+    pub cues: usize,
 }
 
 /// No list but those of theme Far and Large goes further: every answer takes a render from silence.
@@ -377,16 +379,22 @@ impl Writer<'_> {
 
     // ---- lists
 
-    /// A note or two from the start, so that something sounds; at every other list something at the same position as one.
+    /// Two notes or three from the start, so that something sounds, each of the next key in the file, so that two keys have
+    /// contact samples; in every other list something at the same position as one, and in every other a play past them all.
     fn prelude(&mut self) {
-        for _ in 0..1 + self.random.below(3) {
+        let first = self.random.below(self.keys.len() as u64) as usize;
+        for i in 0..2 + self.random.below(2) as usize {
             let q = self.random.below(40);
-            let key = pick(self.random, &self.keys);
+            let key = self.keys[(first + i) % self.keys.len()];
             let velocity = self.random.between(1.0, 7.0);
             self.line(format!("insert {q} on {key} {velocity:.3}"));
         }
         if self.chance(2) {
             self.tie();
+        }
+        if self.chance(2) {
+            let m = 40 + self.random.below(40);
+            self.line(format!("play {m}"));
         }
     }
 
@@ -542,6 +550,33 @@ impl Writer<'_> {
             self.line("play 4096".to_string());
         }
     }
+
+    /// All is lent again, so that the calls to come are accepted; a cue between two plays, so that one is kept.
+    fn cue_between_plays(&mut self) {
+        let (before, after) = (40 + self.random.below(40), 40 + self.random.below(40));
+        let lines = [
+            format!("lend scratch {}", 6 * self.strings),
+            format!("lend trace {TRACE}"),
+            format!("lend work {WORK}"),
+            format!("play {before}"),
+            "cue".to_string(),
+            format!("play {after}"),
+        ];
+        for line in lines {
+            self.line(line);
+        }
+        self.state();
+    }
+
+    /// Back to every kept cue, the last first, where the counts must be those of its own position; how many there are.
+    fn back_to_cues(&mut self) -> usize {
+        let cues: Vec<u64> = self.console.machine.cues.iter().rev().copied().collect();
+        for p in &cues {
+            self.line(format!("go {p}"));
+            self.state();
+        }
+        cues.len()
+    }
 }
 
 fn instrument_for(random: &mut Random, theme: Theme) -> Instrument {
@@ -556,7 +591,7 @@ fn instrument_for(random: &mut Random, theme: Theme) -> Instrument {
 
 pub fn list(random: &mut Random, theme: Theme) -> List {
     let instrument = instrument_for(random, theme);
-    let (script, ties) = {
+    let (script, ties, cues) = {
         let mut writer = Writer {
             keys: instrument.keys.iter().map(|k| k.key).collect(),
             strings: instrument.string_count() as u64,
@@ -584,10 +619,12 @@ pub fn list(random: &mut Random, theme: Theme) -> List {
         }
         writer.state();
         writer.energies();
+        writer.cue_between_plays();
+        let cues = writer.back_to_cues();
         if writer.chance(6) {
             writer.script.pop(); // a last line need not end
         }
-        (writer.script, writer.ties)
+        (writer.script, writer.ties, cues)
     };
-    List { instrument, script, ties }
+    List { instrument, script, ties, cues }
 }

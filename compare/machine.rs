@@ -145,9 +145,18 @@ impl Machine {
 #[derive(Clone)]
 pub struct Mark {
     pub contact_samples: usize,
+    /// Each key's own, in the file's order.
+    pub key_contacts: Vec<usize>,
     pub peak_force: f64,
     pub forces: usize,
     pub energies: Vec<(u8, f64)>,
+}
+
+/// What a play gives: its samples and forces, and the Rust's contact samples at its end.
+pub struct Played {
+    pub samples: Vec<f64>,
+    pub forces: Vec<f64>,
+    pub contact_samples: usize,
 }
 
 /// Positions up to here are always rendered from sample 0.
@@ -185,8 +194,11 @@ impl<'a> Renders<'a> {
             score.iter().map(|(q, event)| ((*q - silent.min(*q)) as usize, event.clone())).collect();
         let mut piano = self.instrument.piano();
         let samples = piano.render((p - silent) as usize, &events);
+        // document 02, W2: "the sum over keys is the Rust's contact_samples"
+        assert_eq!(piano.key_contacts.iter().sum::<usize>(), piano.contact_samples, "the keys' counts at {p}");
         let mark = Mark {
             contact_samples: piano.contact_samples,
+            key_contacts: piano.key_contacts.clone(),
             peak_force: piano.peak_force,
             forces: piano.force_trace.len(),
             energies: piano.key_energies(),
@@ -202,13 +214,13 @@ impl<'a> Renders<'a> {
         self.marks[&p].clone()
     }
 
-    /// The samples from t to t + m − 1, and their forces.
-    pub fn block(&mut self, score: &[(u64, Event)], t: u64, m: u64) -> (Vec<f64>, Vec<f64>) {
+    /// The samples from t to t + m − 1, their forces, and the count at t + m.
+    pub fn play(&mut self, score: &[(u64, Event)], t: u64, m: u64) -> Played {
         let before = self.at(score, t).forces;
-        let (mut samples, mut forces) = self.run(score, t + m);
+        let (mut all, mut forces) = self.run(score, t + m);
         let silent = self.silent(score, t + m);
-        let mut block = vec![0.0; silent.saturating_sub(t) as usize];
-        block.extend(samples.split_off(t.saturating_sub(silent) as usize));
-        (block, forces.split_off(before))
+        let mut samples = vec![0.0; silent.saturating_sub(t) as usize];
+        samples.extend(all.split_off(t.saturating_sub(silent) as usize));
+        Played { samples, forces: forces.split_off(before), contact_samples: self.at(score, t + m).contact_samples }
     }
 }

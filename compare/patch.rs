@@ -1,61 +1,100 @@
 //! Writes the Rust renderer that we compare with: `patch FROM FOLDER` reads model.rs and changes it only where document 01
-//! says that we part from it. Each change must fit exactly as often as it is expected to. FOLDER gets model.rs, and for
-//! the benches published.rs, which has `powf` as published, and logged.rs, which hands each contact's arguments to
-//! `crate::contacts::log`.
+//! says that we part from it. Each change must fit exactly as often as it is expected to. FOLDER gets model.rs, which also
+//! counts each key's contacts beside the Rust's own count, and for the benches timed.rs, which does not, published.rs, which
+//! has `powf` as published, and logged.rs, which hands each contact's arguments to `crate::contacts::log`.
 
 use std::process::exit;
 
+/// What is made of the Rust.
+#[derive(Clone, Copy, PartialEq)]
+enum Kind {
+    Compared,
+    Timed,
+    Published,
+    Logged,
+}
+
+const MADE: [(Kind, &str); 4] = [
+    (Kind::Compared, "model.rs"),
+    (Kind::Timed, "timed.rs"),
+    (Kind::Published, "published.rs"),
+    (Kind::Logged, "logged.rs"),
+];
+
+const ALL: &[Kind] = &[Kind::Compared, Kind::Timed, Kind::Published, Kind::Logged];
+
 struct Patch {
-    /// The sentence of document 01 that asks for the change.
+    /// The sentence of document 01 or 02 that asks for the change, or what the bench wants it for.
     reason: &'static str,
+    /// Which of the made files are changed so; the text must fit in all of them.
+    kinds: &'static [Kind],
     from: &'static str,
     to: &'static str,
     times: usize,
 }
 
-const POWF: &str = ".powf(";
+/// Document 02, W2. The Rust has one count, which stays as it is; a count for each key is instrumentation beside it: a field
+/// that nothing of the Rust reads, so that it changes no sample, force, state or count.
+const COUNT: &str = "A sample in contact counts for the struck key";
 
-const PATCHES: [Patch; 4] = [
+const PATCHES: [Patch; 8] = [
     Patch {
         reason: "`powf` is replaced, also in the Rust that we compare with",
-        from: POWF,
+        kinds: &[Kind::Compared, Kind::Timed, Kind::Logged],
+        from: ".powf(",
         to: ".power_in_half_steps(",
         times: 3,
     },
     Patch {
         reason: "φ replaces `filter_delay`, which needs arctangents",
+        kinds: ALL,
         from: "d.filter_delay(d.fs, d.f0)",
         to: "d.phi",
         times: 1,
     },
     Patch {
         reason: "the decimator takes 127 lent taps in place of its sines (so does the Rust we compare with)",
+        kinds: ALL,
         from: "pub fn decimate(x: &[f64], factor: usize)",
         to: "pub fn decimate(x: &[f64], lent: &[f64], factor: usize)",
         times: 1,
     },
     Patch {
         reason: "the same: tap i is the lent one, and the sines go unused",
+        kinds: ALL,
         from: "sinc * w\n",
         to: "{ let _ = (sinc, w); lent[i] }\n",
         times: 1,
     },
+    Patch {
+        reason: COUNT,
+        kinds: &[Kind::Compared],
+        from: "    pub contact_samples: usize,\n",
+        to: "    pub contact_samples: usize,\n    pub key_contacts: Vec<usize>,\n",
+        times: 1,
+    },
+    Patch {
+        reason: COUNT,
+        kinds: &[Kind::Compared],
+        from: "            keys,\n",
+        to: "            key_contacts: vec![0; keys.len()],\n            keys,\n",
+        times: 1,
+    },
+    Patch {
+        reason: COUNT,
+        kinds: &[Kind::Compared],
+        from: "self.contact_samples += 1;",
+        to: "self.contact_samples += 1; self.key_contacts[h.key_index] += 1;",
+        times: 1,
+    },
+    Patch {
+        reason: "bench/contacts asks how each contact's force is found",
+        kinds: &[Kind::Logged],
+        from: "        if c0 <= 0.0 || k * ",
+        to: "        crate::contacts::log(k, p, eps_r, c0, c1);\n        if c0 <= 0.0 || k * ",
+        times: 1,
+    },
 ];
-
-/// Where a contact's force begins, and the same with its arguments handed on first.
-const CONTACT: &str = "        if c0 <= 0.0 || k * ";
-const LOGGED: &str = "        crate::contacts::log(k, p, eps_r, c0, c1);\n";
-
-/// What is made of the Rust.
-#[derive(Clone, Copy, PartialEq)]
-enum Kind {
-    Compared,
-    Published,
-    Logged,
-}
-
-const MADE: [(Kind, &str); 3] =
-    [(Kind::Compared, "model.rs"), (Kind::Published, "published.rs"), (Kind::Logged, "logged.rs")];
 
 /// A child module sees the private items of its parent; a `use` may stand anywhere in a module.
 const APPENDED: &str = "
@@ -79,15 +118,9 @@ fn patched(from: &str, published: &str, kind: Kind) -> String {
                 patch.from, patch.times, patch.reason
             ));
         }
-        if !(kind == Kind::Published && patch.from == POWF) {
+        if patch.kinds.contains(&kind) {
             text = text.replace(patch.from, patch.to);
         }
-    }
-    if kind == Kind::Logged {
-        if text.matches(CONTACT).count() != 1 {
-            fail(format!("{from}: `{CONTACT}` does not stand there once"));
-        }
-        text = text.replace(CONTACT, &format!("{LOGGED}{CONTACT}"));
     }
     if kind != Kind::Published {
         text.push_str(APPENDED);

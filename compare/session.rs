@@ -39,6 +39,10 @@ const EACH_REFUSAL: u64 = 100;
 /// went ahead of one that was added before it.
 const ONE_TIED_IN: u64 = 3;
 
+/// One of so many lists at least must have two keys with contact samples where their counts are compared, one of as many a kept
+/// cue with such counts, and one of as many a step back to a kept cue that changes a key's count.
+const ONE_COUNTED_IN: u64 = 3;
+
 /// A stored list has no more samples.
 const STORED_SAMPLES: usize = 5_000;
 
@@ -198,6 +202,13 @@ struct Counts {
     contacts: u64,
     /// Lists with a tie, those in which an event went ahead by its kind, and those in which that is heard.
     tied: [u64; 3],
+    /// Sums of contact samples, keys' own counts, and kept cues that were gone back to.
+    sums: u64,
+    key_counts: u64,
+    cues: u64,
+    /// Lists with two keys that have contact samples, those that have them at a kept cue, and those in which a step back to
+    /// one changes a key's count.
+    counted: [u64; 3],
 }
 
 /// The kind under which files that are refused are counted.
@@ -220,7 +231,10 @@ impl Counts {
                 format!("{call} refused {number}")
             }
             None if answer.text.starts_with("bad line") => "bad line".to_string(),
-            None => call.to_string(),
+            None => {
+                self.sums += matches!(call, "play" | "state") as u64;
+                call.to_string()
+            }
         };
         add(&mut self.answers, kind);
         self.samples += answer.samples.len() as u64;
@@ -228,6 +242,19 @@ impl Counts {
         self.sounding += answer.samples.iter().filter(|x| **x != 0.0).count() as u64;
         self.forces += answer.forces.len() as u64;
         self.contacts += answer.forces.iter().filter(|x| **x > 0.0).count() as u64;
+        self.key_counts += answer.key_contacts.len() as u64;
+    }
+
+    /// The counts of a whole list, whose last answers are those of its kept cues: a go and a state each.
+    fn contact_samples(&mut self, answers: &[Answer], cues: usize) {
+        let told: Vec<&[usize]> = answers.iter().map(|a| &a.key_contacts[..]).filter(|keys| !keys.is_empty()).collect();
+        let (_, at_cues) = told.split_at(told.len() - cues);
+        let several = |told: &[&[usize]]| told.iter().any(|keys| keys.iter().filter(|n| **n > 0).count() > 1);
+        let changed = told[told.len() - cues - 1..].windows(2).any(|pair| pair[0] != pair[1]);
+        for (lists, has) in self.counted.iter_mut().zip([several(&told), several(at_cues), changed]) {
+            *lists += has as u64;
+        }
+        self.cues += cues as u64;
     }
 
     fn ties(&mut self, ties: Ties) {
@@ -257,20 +284,31 @@ impl Counts {
         let (lists, [tied, ahead, heard]) = (self.of_calls(), self.tied);
         println!("ties     {tied} of {lists} lists have events of different kinds at one position");
         println!("         {ahead} with one that goes ahead of one added before it, {heard} for the key that this one strikes");
+        let (sums, key_counts, [several, at_cues, changed]) = (self.sums, self.key_counts, self.counted);
+        println!("contacts {sums} sums and {key_counts} counts of keys compared, {} kept cues gone back to", self.cues);
+        println!("         {several} of {lists} lists have two keys or more with a count above zero, {at_cues} at a kept cue");
+        println!("         {changed} with a step back to a kept cue that changes a key's count");
     }
 
-    /// Whether each refusal from 8 to 16, and ties, came often enough.
-    fn enough(&self) -> bool {
-        let [tied, ahead, _] = self.tied;
-        let few_ties = ONE_TIED_IN * tied.min(ahead) < self.of_calls();
-        if few_ties {
-            println!("too few ties: one list in {ONE_TIED_IN} is wanted");
+    /// Whether so few lists have what one in `one_in` must have.
+    fn few(&self, what: &str, lists: u64, one_in: u64) -> bool {
+        let few = one_in * lists < self.of_calls();
+        if few {
+            println!("too few {what}: one list in {one_in} is wanted");
         }
+        few
+    }
+
+    /// Whether each refusal from 8 to 16, ties, and counts of two keys came often enough.
+    fn enough(&self) -> bool {
+        let ([tied, ahead, _], [several, at_cues, changed]) = (self.tied, self.counted);
+        let few_ties = self.few("ties", tied.min(ahead), ONE_TIED_IN);
+        let few_counts = self.few("counts of two keys", several.min(at_cues).min(changed), ONE_COUNTED_IN);
         let rare: Vec<u8> = (8..=16).filter(|n| self.refusals.get(n).copied().unwrap_or(0) < EACH_REFUSAL).collect();
         if !rare.is_empty() {
             println!("too few of the refusals {rare:?}: each is wanted {EACH_REFUSAL} times");
         }
-        rare.is_empty() && !few_ties
+        rare.is_empty() && !few_ties && !few_counts
     }
 }
 
@@ -379,6 +417,7 @@ impl Comparison {
         }
         add(&mut self.counts.lists, format!("{theme:?}"));
         self.counts.ties(list.ties);
+        self.counts.contact_samples(&answers, list.cues);
         self.counts.answer("open", &answers[0]);
         for (line, answer) in answered(&list, &answers) {
             self.counts.answer(&kind_of(line), answer);

@@ -43,6 +43,8 @@ fn mask(flags: impl Iterator<Item = bool>) -> u64 {
     flags.enumerate().fold(0, |mask, (i, flag)| mask | (flag as u64) << (15 - i))
 }
 
+/// The Rust's own contact_samples, peak_force, the hammer's four, pedal, held, hand_damped; damper_r and contact samples of each
+/// key, 0 past the last; a digest of the cells.
 fn state(piano: &Piano) -> Vec<u64> {
     let keys = inside::keys(piano);
     let (flies, key, y_h, v_h) = inside::hammer(piano).map_or((0, 0, 0.0, 0.0), |(k, y, v)| (1, k as u64, y, v));
@@ -51,6 +53,7 @@ fn state(piano: &Piano) -> Vec<u64> {
     words.push(mask(keys.iter().map(|(held, _, _)| *held)));
     words.push(mask(keys.iter().map(|(_, hand_damped, _)| *hand_damped)));
     words.extend((0..16).map(|i| keys.get(i).map_or(0, |(_, _, r)| bits(*r))));
+    words.extend((0..16).map(|i| piano.key_contacts.get(i).map_or(0, |n| *n as u64)));
     words.push(digest(&inside::part(piano)));
     words
 }

@@ -2,7 +2,8 @@
    a pointer and a length in elements. Slices of one call must not overlap. Nothing is kept between calls: the host owns the
    instrument's file, the session's words and the work memory, and hands them to every call.
 
-   Every call answers a refusal's number, 0 for none. A refused call changes nothing. docs/EMBEDDING.md is the page for hosts.
+   Every call answers a refusal's number, 0 for none. A refused call changes nothing, and the other numbers of its answer are 0.
+   docs/EMBEDDING.md is the page for hosts.
 
    A host sees to three things.
 
@@ -19,8 +20,8 @@
    Refusals, of which a call tests those that concern it in this order:
 
     1 to 6  the file: table, chain, lengths, fields, over 32 strings, a key twice
-    7       the words are no session's on this instrument, or an event's numbers no event's; words kept by a version that
-            placed events of one position by the order of adding may be none
+    7       the words are no session's on this instrument, or an event's numbers no event's; words kept by an earlier version,
+            541 with one count for all keys, are none
     8       work memory has fewer cells than gingerfile_read says
     9       scratch has fewer cells than gingerfile_read says
    10       the trace is shorter than the output
@@ -44,28 +45,31 @@ extern "C" {
 #endif
 
 /* A session's words, one a number: the position t, the number of events, 64 events, four cues, the piano now. A host may
-   read them and keep copies of them. Words of another number than 541, or that are no session's, are refused as 7.
+   read them and keep copies of them. Words of another number than 616, or that are no session's, are refused as 7.
 
-   541 zeros are a session: at position 0, with no events and no cues. So words that no call has written may pass, and the work
+   616 zeros are a session: at position 0, with no events and no cues. So words that no call has written may pass, and the work
    memory is then taken as the strings' state, whatever it holds; gingerfile_open writes both. */
 enum {
-    GINGERFILE_WORDS = 541,
+    GINGERFILE_WORDS = 616,
     GINGERFILE_T = 0,
     GINGERFILE_COUNT = 1,
     /* Events of 4 words: position, kind, key, and a strike's velocity by its bits. They stand by position; those of one
        position by kind, a release first, then a hand damp, a pedal move and a strike; those of one kind as they were added. */
     GINGERFILE_EVENTS = 2,
-    /* Cues of 57 words: 1 where one is kept, its position, its piano. */
+    /* Cues of 72 words: 1 where one is kept, its position, its piano. */
     GINGERFILE_CUES = 258,
-    /* The piano now: 16 held, 16 hand-damped, 16 damper resistances, the pedal, whether a hammer flies, its key's index,
-       its place and speed, contact samples, peak force; floats by their bits. */
-    GINGERFILE_PIANO = 486,
-    GINGERFILE_CONTACT_SAMPLES = 539
+    /* The piano now, 70 words: 16 held, 16 hand-damped, 16 damper resistances, 16 contact samples, the pedal, whether a hammer
+       flies, its key's index, its place and speed, peak force; floats by their bits. */
+    GINGERFILE_PIANO = 546,
+    /* The contact samples of the piano now, 16 words, one a key in the file's order: the samples up to t on which the hammer that
+       struck the key was in contact. Where the sum over the instrument's keys is above t, or that of a kept cue above its
+       position, the words are refused as 7. Counts past the instrument's keys may be anything and decide nothing. */
+    GINGERFILE_CONTACT_SAMPLES = 594
 };
 
 /* Bytes of stack that every call has room in, below the frame that it is made in; and what to give a thread that makes calls,
    which has its own needs beside them. */
-enum { GINGERFILE_STACK = 49152, GINGERFILE_THREAD = 65536 };
+enum { GINGERFILE_STACK = 53248, GINGERFILE_THREAD = 65536 };
 
 /* Kinds of an event; the pedal's key is 1 for down, 0 for up. The numbers do not say which acts first. */
 enum { GINGERFILE_STRIKE = 0, GINGERFILE_RELEASE = 1, GINGERFILE_PEDAL = 2, GINGERFILE_HAND_DAMP = 3 };
@@ -76,6 +80,8 @@ typedef struct {
     uint64_t value;
     /* insert and remove: the number of cues dropped. */
     uint64_t dropped;
+    /* play: the contact samples of all keys at the position after it. */
+    uint64_t contacts;
 } gingerfile_report;
 
 typedef struct {
@@ -97,7 +103,8 @@ gingerfile_sizes gingerfile_read(const uint8_t *file, size_t file_length);
 gingerfile_report gingerfile_open(const uint8_t *file, size_t file_length, uint64_t *words, size_t words_length, double *work,
                                  size_t work_length);
 
-/* Renders as many samples as `out` has; the first forces of `trace` are those of the samples with a hammer. Refuses 1 to 11. */
+/* Renders as many samples as `out` has; the first forces of `trace` are those of the samples with a hammer. Answers how many there
+   are, and the contact samples of all keys. Refuses 1 to 11. */
 gingerfile_report gingerfile_play(const uint8_t *file, size_t file_length, uint64_t *words, size_t words_length, double *work,
                                  size_t work_length, double *scratch, size_t scratch_length, double *out,
                                  size_t out_length, double *trace, size_t trace_length);

@@ -4,7 +4,7 @@
 use crate::gingerfile::{self, Console, Refusal};
 use crate::instrument::Instrument;
 use crate::model::Event;
-use crate::published;
+use crate::{published, timed};
 
 macro_rules! event_of {
     ($types:ident, $event:expr) => {
@@ -15,6 +15,10 @@ macro_rules! event_of {
             Event::HandDamp { key } => $types::Event::HandDamp { key },
         }
     };
+}
+
+pub fn timed_event(event: &Event) -> timed::Event {
+    event_of!(timed, event)
 }
 
 pub fn published_event(event: &Event) -> published::Event {

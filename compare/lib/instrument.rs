@@ -2,7 +2,7 @@
 //! of what was read. It is written from the document and shares nothing with the proved reader.
 
 use crate::design::LoopDesign;
-use crate::{logged, model, published};
+use crate::{logged, model, published, timed};
 
 #[derive(Clone, Default)]
 pub struct Common {
@@ -221,6 +221,11 @@ impl Instrument {
     /// The Rust's piano, in silence.
     pub fn piano(&self) -> model::Piano {
         piano_of!(model, self)
+    }
+
+    /// The same without a count for each key.
+    pub fn timed_piano(&self) -> timed::Piano {
+        piano_of!(timed, self)
     }
 
     /// The same with its own powf.

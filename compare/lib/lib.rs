@@ -19,6 +19,11 @@ pub mod waves;
 #[path = "../../target/compare/model.rs"]
 pub mod model;
 
+/// The same without the count of each key's contacts, for the benches.
+#[allow(dead_code)]
+#[path = "../../target/compare/timed.rs"]
+pub mod timed;
+
 /// The Rust with its own powf.
 #[allow(dead_code)]
 #[path = "../../target/compare/published.rs"]

@@ -1,6 +1,6 @@
 /* Words in another order: `order INSTRUMENT` inserts two events of different kinds at one position, in either order, and makes
    every call on the session's words, and on the same with the two events changed about. The first are accepted; the others are
-   refused as 7, as kept words of a version without the order may be, and nothing is written. */
+   refused as 7, and nothing is written. */
 #include "gingerfile.h"
 #include <stdio.h>
 #include <stdlib.h>

@@ -1,10 +1,11 @@
-/* A phrase with a cue and a step back: `phrase INSTRUMENT OUT.wav`. It strikes the instrument's keys one after the other. */
+/* A phrase with a cue and a step back: `phrase INSTRUMENT OUT.wav`. It strikes the instrument's keys one after the other, and
+   follows the contact samples of all keys and of each. */
 #include "gingerfile.h"
 #include <stdio.h>
 #include <stdlib.h>
 #include <string.h>
 
-enum { BLOCK = 256, LONGEST_FILE = 65536 };
+enum { BLOCK = 256, LONGEST_FILE = 65536, MOST_KEYS = 16 };
 
 /* A session, and what it is lent. */
 static uint8_t file[LONGEST_FILE];
@@ -33,16 +34,29 @@ static gingerfile_report accepted(gingerfile_report report)
     return report;
 }
 
-/* Plays in blocks, as an audio callback would; the number of forces. */
-static uint64_t play(double *out, size_t count)
+/* Plays in blocks, as an audio callback would; the number of forces, and the contact samples of all keys behind the last. */
+static gingerfile_report play(double *out, size_t count)
 {
     static double trace[BLOCK];
-    uint64_t forces = 0;
+    gingerfile_report all = {0};
     for (size_t done = 0; done < count; done += BLOCK) {
         const size_t block = count - done < BLOCK ? count - done : BLOCK;
-        forces += accepted(gingerfile_play(SESSION, SCRATCH, out + done, block, trace, BLOCK)).value;
+        const gingerfile_report report = accepted(gingerfile_play(SESSION, SCRATCH, out + done, block, trace, BLOCK));
+        all.value += report.value;
+        all.contacts = report.contacts;
     }
-    return forces;
+    return all;
+}
+
+/* Each key's contact samples now; their sum. */
+static uint64_t count_keys(uint64_t *counts)
+{
+    uint64_t sum = 0;
+    for (size_t k = 0; k < sizes.keys; k++) {
+        counts[k] = words[GINGERFILE_CONTACT_SAMPLES + k];
+        sum += counts[k];
+    }
+    return sum;
 }
 
 static void put(FILE *out, uint32_t number, size_t bytes)
@@ -102,18 +116,28 @@ int main(int argc, char **argv)
     check(gingerfile_insert(SESSION, 0, 4, 60, 3.0).refusal == 7, "7 was to come: there is no event of kind 4");
 
     /* a cue at the last strike; a beat on, and back */
-    uint64_t forces = play(samples, (keys.count - 1) * beat);
+    const size_t last = keys.count - 1;
+    uint64_t at_cue[MOST_KEYS] = {0}, counts[MOST_KEYS] = {0}, counts_again[MOST_KEYS] = {0};
+    uint64_t forces = play(samples, last * beat).value;
     accepted(gingerfile_cue(SESSION));
-    forces += play(samples + (keys.count - 1) * beat, beat);
-    const uint64_t contacts = words[GINGERFILE_CONTACT_SAMPLES];
-    const uint64_t replayed = accepted(gingerfile_go(SESSION, SCRATCH, (keys.count - 1) * beat)).value;
-    play(again, beat);
-    check(memcmp(again, samples + (keys.count - 1) * beat, beat * sizeof *again) == 0, "a step back plays something else");
-    check(words[GINGERFILE_CONTACT_SAMPLES] == contacts, "a step back counts something else");
-    forces += play(samples + keys.count * beat, 4 * beat);
+    count_keys(at_cue);
+    const gingerfile_report first = play(samples + last * beat, beat);
+    check(count_keys(counts) == first.contacts, "a play tells another sum than that of the keys");
+
+    const uint64_t replayed = accepted(gingerfile_go(SESSION, SCRATCH, last * beat)).value;
+    count_keys(counts_again);
+    check(memcmp(counts_again, at_cue, sizeof at_cue) == 0, "a step back leaves a key's count where it was");
+    const gingerfile_report second = play(again, beat);
+    check(memcmp(again, samples + last * beat, beat * sizeof *again) == 0, "a step back plays something else");
+    count_keys(counts_again);
+    check(second.contacts == first.contacts && memcmp(counts_again, counts, sizeof counts) == 0,
+          "a step back counts something else");
+
+    forces += first.value + play(samples + keys.count * beat, 4 * beat).value;
     write_wav(argv[2], samples, count);
-    printf("from C: %zu samples, %llu forces; a step back replays %llu, and the count is %llu again\n", count,
-           (unsigned long long)forces, (unsigned long long)replayed, (unsigned long long)contacts);
+    printf("from C: %zu samples, %llu forces; a step back replays %llu, and the count is %llu again, %llu of it for key %d\n",
+           count, (unsigned long long)forces, (unsigned long long)replayed, (unsigned long long)second.contacts,
+           (unsigned long long)counts[last], keys.keys[last]);
     free(work);
     free(scratch);
     free(samples);

@@ -25,10 +25,10 @@ static void check(int good, const char *what)
     }
 }
 
-static uint64_t accepted(gingerfile_report report)
+static gingerfile_report accepted(gingerfile_report report)
 {
     check(report.refusal == 0, "a call is refused");
-    return report.value;
+    return report;
 }
 
 /* A sum in which every bit and its place counts. */
@@ -45,10 +45,13 @@ static uint64_t digest(const double *floats, uint64_t count)
 
 static void play(void)
 {
-    const uint64_t forces = accepted(gingerfile_play(SESSION, SCRATCH, out, COUNT, trace, COUNT));
-    printf("at %llu: samples %016llx, %llu forces %016llx, %llu contact samples\n",
-           (unsigned long long)words[GINGERFILE_T], (unsigned long long)digest(out, COUNT), (unsigned long long)forces,
-           (unsigned long long)digest(trace, forces), (unsigned long long)words[GINGERFILE_CONTACT_SAMPLES]);
+    const gingerfile_report played = accepted(gingerfile_play(SESSION, SCRATCH, out, COUNT, trace, COUNT));
+    printf("at %llu: samples %016llx, %llu forces %016llx, %llu contact samples, by key",
+           (unsigned long long)words[GINGERFILE_T], (unsigned long long)digest(out, COUNT), (unsigned long long)played.value,
+           (unsigned long long)digest(trace, played.value), (unsigned long long)played.contacts);
+    for (size_t k = 0; k < sizes.keys; k++)
+        printf(" %llu", (unsigned long long)words[GINGERFILE_CONTACT_SAMPLES + k]);
+    printf("\n");
 }
 
 /* Into the middle of a contact, a cue behind it. */
@@ -67,7 +70,7 @@ static void before(void)
 static void after(void)
 {
     play();
-    check(accepted(gingerfile_go(SESSION, SCRATCH, 3000)) == 0, "the cue is gone");
+    check(accepted(gingerfile_go(SESSION, SCRATCH, 3000)).value == 0, "the cue is gone");
     play();
 }
 

@@ -5,22 +5,23 @@ use super::refusal::Refusal;
 use std::fmt;
 
 /// Words of a session; `gingerfile.h` says what stands where.
-pub const WORDS: usize = 541;
+pub const WORDS: usize = 616;
 /// The word of the position.
 pub const T: usize = 0;
 const COUNT: usize = 1;
 const EVENTS: usize = 2;
 const EVENT: usize = 4;
 const CUES: usize = 258;
-const CUE: usize = 57;
+const CUE: usize = 72;
 /// Where the words of the piano now begin.
-pub const PIANO: usize = 486;
-const CONTACT_SAMPLES: usize = 539;
-const PEAK_FORCE: usize = 540;
+pub const PIANO: usize = 546;
+/// Where the keys' contact samples begin, one word a key in the file's order; those past the last key decide nothing.
+pub const CONTACT_SAMPLES: usize = 594;
+const PEAK_FORCE: usize = 615;
 
 /// Bytes of stack that a call needs below the caller's frame, `GINGERFILE_STACK` of `gingerfile.h`. A thread of 64 KiB has
 /// them beside its own.
-pub const STACK: usize = 49_152;
+pub const STACK: usize = 53_248;
 
 /// What a score has at a position. At one position releases act first, then hand damps, pedal moves and strikes. An event of a
 /// key that the instrument has not does nothing.
@@ -70,6 +71,15 @@ impl Event {
     }
 }
 
+/// What a play gives, beside its samples and forces.
+#[derive(Clone, Copy, Debug, PartialEq, Eq)]
+pub struct Played {
+    /// How many forces stand first in the trace: one for each sample that has a hammer.
+    pub forces: usize,
+    /// The contact samples of all keys at the position after it, as [`contact_samples`](Console::contact_samples) has them.
+    pub contact_samples: u64,
+}
+
 /// What an edit gives.
 #[derive(Clone, Copy, Debug, PartialEq, Eq)]
 pub struct Edited {
@@ -96,6 +106,11 @@ impl Report {
     fn accepted(self) -> Result<Report, Refusal> {
         Refusal::of(self.refusal)?;
         Ok(self)
+    }
+
+    fn played(self) -> Result<Played, Refusal> {
+        let Report { value, contacts, .. } = self.accepted()?;
+        Ok(Played { forces: value as usize, contact_samples: contacts })
     }
 
     fn edited(self) -> Result<Edited, Refusal> {
@@ -126,6 +141,8 @@ fn energies_of(file: &[u8], words: &[u64], work: &[f64]) -> Result<KeyEnergies, 
 pub struct Console {
     file: Vec<u8>,
     fs: f64,
+    /// The keys' numbers, in the file's order.
+    keys: Vec<u8>,
     words: Box<[u64; WORDS]>,
     work: Vec<f64>,
     scratch: Vec<f64>,
@@ -143,16 +160,28 @@ impl Console {
     /// Where the library that was linked has sessions of another number of words than this wrapper.
     pub fn open(file: &[u8]) -> Result<Console, Refusal> {
         let sizes = sizes_of(file)?;
+        let (mut words, mut work) = (vec![0; WORDS], vec![0.0; sizes.work]);
+        library!(gingerfile_open, [file], [words, work]).accepted()?;
+        Console::of(file, sizes, &words, work)
+    }
+
+    /// The session that these words and this work memory are, once the library accepts them.
+    fn of(file: &[u8], sizes: Sizes, words: &[u64], work: Vec<f64>) -> Result<Console, Refusal> {
+        let KeyEnergies { count, keys, .. } = energies_of(file, words, &work)?;
+        // the library accepts a longer one
+        if work.len() != sizes.work {
+            return Err(Refusal::WORK);
+        }
         let mut console = Console {
             file: file.to_vec(),
             fs: sizes.fs,
+            keys: keys[..count].to_vec(),
             words: Box::new([0; WORDS]),
-            work: vec![0.0; sizes.work],
+            work,
             // what stands in scratch decides nothing
             scratch: vec![f64::NAN; sizes.scratch],
         };
-        let Console { file, words, work, .. } = &mut console;
-        library!(gingerfile_open, [file], [words, work]).accepted()?;
+        console.words.copy_from_slice(words);
         Ok(console)
     }
 
@@ -180,7 +209,7 @@ impl Console {
     ///
     /// # Errors
     ///
-    /// 1 to 6 for the file; [`RECORD`](Refusal::RECORD) where the words are not 541 or no session's on this instrument;
+    /// 1 to 6 for the file; [`RECORD`](Refusal::RECORD) where the words are not 616 or no session's on this instrument;
     /// [`WORK`](Refusal::WORK) where the work memory has another length than the instrument's.
     ///
     /// # Panics
@@ -188,31 +217,32 @@ impl Console {
     /// As [`open`](Console::open).
     pub fn restore(file: &[u8], words: &[u64], work: &[f64]) -> Result<Console, Refusal> {
         let sizes = sizes_of(file)?;
-        energies_of(file, words, work)?;
-        if work.len() != sizes.work {
-            return Err(Refusal::WORK);
-        }
-        let mut console = Console {
-            file: file.to_vec(),
-            fs: sizes.fs,
-            words: Box::new([0; WORDS]),
-            work: work.to_vec(),
-            scratch: vec![f64::NAN; sizes.scratch],
-        };
-        console.words.copy_from_slice(words);
-        Ok(console)
+        Console::of(file, sizes, words, work.to_vec())
     }
 
-    /// Renders as many samples as `out` has; gives the number of forces, which stand first in `trace`: one for each sample
-    /// that has a hammer.
+    /// Renders as many samples as `out` has; gives the number of forces, which stand first in `trace`, and the contact samples
+    /// up to the position after it.
+    ///
+    /// ```
+    /// # fn main() -> Result<(), Box<dyn std::error::Error>> {
+    /// # use gingerfile::{Console, Event};
+    /// let mut console = Console::open(&std::fs::read("piano")?)?;
+    /// console.insert(0, Event::NoteOn { key: 60, velocity: 3.0 })?;
+    /// let (mut out, mut trace) = ([0.0; 441], [0.0; 441]);
+    /// let played = console.play(&mut out, &mut trace)?;
+    /// let in_contact = trace[..played.forces].iter().filter(|force| **force > 0.0);
+    /// assert_eq!(in_contact.count() as u64, played.contact_samples);
+    /// # assert!(played.contact_samples > 0);
+    /// # Ok(())
+    /// # }
+    /// ```
     ///
     /// # Errors
     ///
     /// [`TRACE`](Refusal::TRACE) and [`PAST_END`](Refusal::PAST_END).
-    pub fn play(&mut self, out: &mut [f64], trace: &mut [f64]) -> Result<usize, Refusal> {
+    pub fn play(&mut self, out: &mut [f64], trace: &mut [f64]) -> Result<Played, Refusal> {
         let Console { file, words, work, scratch, .. } = self;
-        let reply = library!(gingerfile_play, [file], [words, work, scratch, out, trace]).accepted()?;
-        Ok(reply.value as usize)
+        library!(gingerfile_play, [file], [words, work, scratch, out, trace]).played()
     }
 
     /// Keeps the state at the position now; changes nothing where that is kept already.
@@ -343,9 +373,32 @@ impl Console {
         self.words[CUES..PIANO].chunks(CUE).filter(|cue| cue[0] == 1).map(|cue| cue[1])
     }
 
-    /// The count that titles follow: the samples up to the position on which a hammer was in contact.
+    /// The count that titles follow: the samples up to the position on which a hammer was in contact, of all keys.
     pub fn contact_samples(&self) -> u64 {
-        self.words[CONTACT_SAMPLES]
+        self.key_contacts().fold(0, |sum, (_, count)| sum.saturating_add(count))
+    }
+
+    /// Each key's number and its own contact samples up to the position, in the file's order: a sample in contact counts for
+    /// the key that was struck.
+    ///
+    /// ```
+    /// # fn main() -> Result<(), Box<dyn std::error::Error>> {
+    /// # use gingerfile::{Console, Event};
+    /// let mut console = Console::open(&std::fs::read("piano")?)?;
+    /// console.insert(0, Event::NoteOn { key: 48, velocity: 3.0 })?;
+    /// console.insert(2_000, Event::NoteOn { key: 60, velocity: 3.0 })?;
+    /// console.go(4_000)?;
+    ///
+    /// // those of the keys below 60 alone
+    /// let low: u64 = console.key_contacts().filter(|(key, _)| *key < 60).map(|(_, count)| count).sum();
+    /// assert!(0 < low && low < console.contact_samples());
+    /// # let struck: Vec<u8> = console.key_contacts().filter(|(_, count)| *count > 0).map(|(key, _)| key).collect();
+    /// # assert_eq!(struck, [48, 60]);
+    /// # Ok(())
+    /// # }
+    /// ```
+    pub fn key_contacts(&self) -> impl Iterator<Item = (u8, u64)> + '_ {
+        self.keys.iter().copied().zip(self.words[CONTACT_SAMPLES..].iter().copied())
     }
 
     /// The greatest force up to the position.
@@ -362,7 +415,7 @@ impl Console {
     ///
     /// # Errors
     ///
-    /// [`RECORD`](Refusal::RECORD) where they are not 541, or no session's on this instrument; the session stays as it was.
+    /// [`RECORD`](Refusal::RECORD) where they are not 616, or no session's on this instrument; the session stays as it was.
     pub fn set_words(&mut self, words: &[u64]) -> Result<(), Refusal> {
         energies_of(&self.file, words, &self.work)?;
         self.words.copy_from_slice(words);

@@ -2,7 +2,7 @@
 //! `rt staticlib gingerfile` makes. `docs/EMBEDDING.md` in the repository is the page for hosts.
 //!
 //! A [`Console`] is an instrument and a session on it: a score of at most 64 events, a position, and up to four cues, to which
-//! it steps back with strings, pedal, dampers, hammer and count. Its calls keep nothing outside it.
+//! it steps back with strings, pedal, dampers, hammer and every key's count. Its calls keep nothing outside it.
 //!
 //! ```
 //! # fn main() -> Result<(), Box<dyn std::error::Error>> {
@@ -15,8 +15,9 @@
 //! // half a second in blocks; each block's forces stand first in the trace
 //! let (mut out, mut trace) = ([0.0; 441], [0.0; 441]);
 //! for _ in 0..50 {
-//!     let forces = console.play(&mut out, &mut trace)?;
-//!     assert!(forces <= out.len());
+//!     let played = console.play(&mut out, &mut trace)?;
+//!     assert!(played.forces <= out.len());
+//!     assert_eq!(played.contact_samples, console.contact_samples());
 //! }
 //! assert_eq!(console.position(), 22_050);
 //! # assert!(console.contact_samples() > 0);
@@ -44,6 +45,6 @@ mod decimator;
 mod float;
 mod refusal;
 
-pub use console::{Console, Edited, Event, KeyEnergies, PIANO, STACK, T, WORDS};
+pub use console::{Console, Edited, Event, KeyEnergies, Played, CONTACT_SAMPLES, PIANO, STACK, T, WORDS};
 pub use decimator::{decimate, decimate_into, decimated_length};
 pub use refusal::Refusal;

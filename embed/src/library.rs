@@ -7,6 +7,7 @@ pub struct Report {
     pub refusal: u64,
     pub value: u64,
     pub dropped: u64,
+    pub contacts: u64,
 }
 
 #[repr(C)]

@@ -2,7 +2,7 @@
 
 mod common;
 
-use gingerfile::{Console, Refusal, PIANO, STACK, T, WORDS};
+use gingerfile::{Console, Refusal, CONTACT_SAMPLES, PIANO, STACK, T, WORDS};
 use std::error::Error;
 use std::fs::read_to_string;
 
@@ -65,8 +65,8 @@ fn the_header_has_the_same_numbers() {
         let rest = header.split(&format!("{name} = ")).nth(1).unwrap_or_else(|| panic!("the header has no {name}"));
         rest.split(|c: char| !c.is_ascii_digit()).next().unwrap().parse().unwrap()
     };
-    let names = ["WORDS", "T", "PIANO", "STACK"].map(|name| number(&format!("GINGERFILE_{name}")));
-    assert_eq!(names, [WORDS, T, PIANO, STACK]);
+    let names = ["WORDS", "T", "PIANO", "CONTACT_SAMPLES", "STACK"].map(|name| number(&format!("GINGERFILE_{name}")));
+    assert_eq!(names, [WORDS, T, PIANO, CONTACT_SAMPLES, STACK]);
 }
 
 /// `piano` is the instrument that the program `rehearse` has inside, as a file.

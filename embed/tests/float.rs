@@ -62,7 +62,7 @@ fn opened() -> Result<Console, Refusal> {
 fn all_calls() -> Result<Given, Refusal> {
     let mut console = opened()?;
     let (mut out, mut trace) = (vec![0.0; SAMPLES], vec![0.0; SAMPLES]);
-    let forces = console.play(&mut out, &mut trace)?;
+    let forces = console.play(&mut out, &mut trace)?.forces;
     console.cue()?;
     console.go(12_100)?;
     console.remove(1)?;
@@ -109,6 +109,7 @@ struct Report {
     refusal: u64,
     value: u64,
     dropped: u64,
+    contacts: u64,
 }
 
 #[rustfmt::skip]
@@ -141,7 +142,7 @@ fn bare_play() -> Vec<u64> {
         )
     };
     assert_eq!((report.refusal, report.dropped), (0, 0));
-    assert!(report.value > 0);
+    assert!(report.value > 0 && report.contacts > 0);
     bits(&out)
 }
 

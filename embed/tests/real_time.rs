@@ -46,7 +46,9 @@ fn calls_of_a_callback_allocate_nothing() {
     let mut callback = || -> Result<usize, Refusal> {
         console.insert(10, Event::NoteOn { key: 60, velocity: 3.0 })?;
         console.insert(300, Event::Pedal(true))?;
-        let forces = console.play(&mut out, &mut trace)?;
+        let played = console.play(&mut out, &mut trace)?;
+        assert_eq!(console.key_contacts().map(|(_, count)| count).sum::<u64>(), played.contact_samples);
+        assert_eq!(console.contact_samples(), played.contact_samples);
         console.cue()?;
         console.go(400)?;
         console.remove(1)?;
@@ -56,7 +58,7 @@ fn calls_of_a_callback_allocate_nothing() {
         decimate_into(&out, &[0.5; 127], 2, &mut trace[..128])?;
         console.set_words(&words)?;
         console.work_mut().copy_from_slice(&work);
-        Ok(forces)
+        Ok(played.forces)
     };
     let mut forces = Ok(0);
     assert_eq!(turns(|| forces = callback()), 0);

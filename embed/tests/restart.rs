@@ -60,11 +60,12 @@ fn kept(folder: &Path) -> Result<Console, Refusal> {
     Console::restore(&read(folder.join("piano")).unwrap(), &words, &work)
 }
 
-/// What was played, in a file: each play's lengths and its numbers.
+/// What was played, in a file: each play's lengths and its numbers, each key's count among them.
 fn tell(folder: &Path, plays: &[Played]) {
     let told = plays.iter().flat_map(|played| {
         let lengths = [played.samples.len() as u64, played.forces.len() as u64, played.contacts];
-        lengths.into_iter().chain(played.samples.clone()).chain(played.forces.clone())
+        let numbers = [&played.samples[..], &played.forces, &played.key_contacts].concat();
+        lengths.into_iter().chain(numbers)
     });
     write(folder.join("played"), bytes(told)).unwrap();
 }
@@ -107,6 +108,8 @@ fn a_session_outlives_its_process() {
 
     let unbroken = after(&mut before().unwrap()).unwrap();
     assert!(unbroken.iter().all(|played| played.contacts > 100), "something is counted");
+    let counted = |played: &Played| played.key_contacts.iter().filter(|count| **count > 0).count();
+    assert!(unbroken.iter().all(|played| counted(played) > 1), "for two keys or more");
     assert!(unbroken.iter().all(|played| !played.forces.is_empty()), "a hammer flies in each");
     tell(&folder, &unbroken);
     assert!(told == read(folder.join("played")).unwrap(), "the second process played something else");

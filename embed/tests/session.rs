@@ -2,12 +2,21 @@
 
 mod common;
 
-use common::{bits, instrument, play, Strings, LEAST, PIANO};
-use gingerfile::{decimate, decimate_into, decimated_length, Console, Edited, Event, Refusal, PIANO as NOW, T, WORDS};
+use common::{bits, instrument, key_contacts, play, Played, Strings, KEY, LEAST, PIANO};
+use gingerfile::{decimate, decimate_into, decimated_length, Console, Edited, Event, Refusal};
+use gingerfile::{CONTACT_SAMPLES, PIANO as NOW, T, WORDS};
 
-/// Where `gingerfile.h` has the events, and how many words each is.
+/// Where `gingerfile.h` has the events and the cues, and how many words each is.
 const EVENTS: usize = 2;
 const EVENT: usize = 4;
+const CUES: usize = 258;
+const CUE: usize = 72;
+/// In the words of a cue: its position, and the first of its keys' contact samples.
+const CUE_POSITION: usize = 1;
+const CUE_CONTACT_SAMPLES: usize = 2 + (CONTACT_SAMPLES - NOW);
+/// How many keys a session has words for, and how many the piano has.
+const MOST_KEYS: usize = 16;
+const KEYS: usize = 8;
 
 const STRIKE: Event = Event::NoteOn { key: 60, velocity: 3.0 };
 
@@ -194,7 +203,8 @@ fn words_of_another_length_are_refused() {
     let mut console = rehearsed();
     let mut long = console.words().to_vec();
     long.push(0);
-    for words in [&[][..], &long[..WORDS - 1], &long] {
+    // 541 were those of a version that had one count for all keys
+    for words in [&[][..], &long[..541], &long[..WORDS - 1], &long] {
         refused(&mut console, Refusal::RECORD, |c| c.set_words(words));
         assert_eq!(Console::restore(PIANO, words, console.work()).map(|_| ()), Err(Refusal::RECORD));
     }
@@ -203,7 +213,8 @@ fn words_of_another_length_are_refused() {
     console.set_words(&words).expect("its own words");
 }
 
-/// Each word in turn all ones: refused, but for those that decide nothing, past the score's end and in slots that keep no cue.
+/// Each word in turn all ones: refused, but for those that decide nothing, past the score's end, in slots that keep no cue and
+/// past the last key.
 #[test]
 fn words_of_no_session_are_refused() {
     let mut console = rehearsed();
@@ -221,8 +232,207 @@ fn words_of_no_session_are_refused() {
         }
         assert_eq!(console.words(), kept);
     }
-    // a position of each event, and a position and a count of each cue, that are not there
-    assert_eq!(accepted, (64 - 5) + 2 * (4 - 1));
+    // a position of each event, and a position and every count of each cue, that are not there; the counts past the last key,
+    // of the cue that is kept and of the piano now
+    assert_eq!(accepted, (64 - 5) + (1 + MOST_KEYS) * (4 - 1) + 2 * (MOST_KEYS - KEYS));
+}
+
+// ---- a count for each key
+
+/// Three keys struck, and a cue at 900, ahead of the third strike.
+fn counted() -> Console {
+    let mut console = Console::open(PIANO).unwrap();
+    for (position, key) in [(0, 60), (500, 64), (1_000, 48)] {
+        console.insert(position, Event::NoteOn { key, velocity: 3.0 }).unwrap();
+    }
+    play(&mut console, 900).unwrap();
+    console.cue().unwrap();
+    play(&mut console, 1_100).unwrap();
+    console
+}
+
+/// A sample in contact counts for the struck key: each count is that of the forces above zero while its hammer flies.
+#[test]
+fn each_key_has_a_count_of_its_own() {
+    let mut console = Console::open(PIANO).unwrap();
+    let mut counts = vec![0; KEYS];
+    for (position, key, index) in [(0, 60, 4), (700, 64, 5), (1_400, 48, 2), (2_100, 60, 4)] {
+        console.insert(position, Event::NoteOn { key, velocity: 3.0 }).unwrap();
+        let played = play(&mut console, 700).unwrap();
+        counts[index] += played.forces.iter().filter(|force| f64::from_bits(**force) > 0.0).count() as u64;
+        assert_eq!(played.key_contacts, counts);
+        assert_eq!(played.contacts, counts.iter().sum::<u64>());
+        let numbered: Vec<(u8, u64)> =
+            [36, 43, 48, 55, 60, 64, 67, 72].into_iter().zip(counts.iter().copied()).collect();
+        assert_eq!(console.key_contacts().collect::<Vec<_>>(), numbered);
+    }
+    assert!([2, 4, 5].iter().all(|i| counts[*i] > 10) && counts[4] > counts[5], "{counts:?}");
+}
+
+#[test]
+fn a_step_back_brings_each_count_back() {
+    let mut console = counted();
+    let now = key_contacts(&console);
+    assert!([2, 4, 5].iter().all(|i| now[*i] > 10), "{now:?}");
+    assert_eq!(console.go(900), Ok(0));
+    let at_cue = key_contacts(&console);
+    assert_eq!((at_cue[2], at_cue[4], at_cue[5]), (0, now[4], now[5]));
+    assert_eq!(console.contact_samples(), now[4] + now[5]);
+    // where the second strike is still to act nothing is kept: the first is replayed from silence
+    assert_eq!(console.go(500), Ok(500));
+    assert_eq!((console.contact_samples(), key_contacts(&console)[4]), (now[4], now[4]));
+    // an edit between cue and third strike takes the piano back to the cue
+    console.go(2_000).unwrap();
+    assert_eq!(key_contacts(&console), now);
+    assert_eq!(console.insert(950, Event::NoteOn { key: 72, velocity: 2.0 }).unwrap(), Edited { t: 900, dropped: 0 });
+    assert_eq!(key_contacts(&console), at_cue);
+    assert_eq!(console.insert(10, Event::Pedal(true)).unwrap(), Edited { t: 0, dropped: 1 });
+    assert_eq!(key_contacts(&console), [0; KEYS]);
+}
+
+/// The words with other counts from `at` on, by the key's index.
+fn with_counts(words: &[u64], at: usize, counts: &[(usize, u64)]) -> Vec<u64> {
+    let mut changed = words.to_vec();
+    changed[at..at + KEYS].fill(0);
+    for (key, count) in counts {
+        changed[at + key] = *count;
+    }
+    changed
+}
+
+/// Counts of keys and whether their sum is at most the position.
+fn sums(position: u64) -> [(Vec<(usize, u64)>, bool); 9] {
+    let half = 1 << 63;
+    [
+        (vec![], true),
+        (vec![(0, position)], true),
+        (vec![(7, position)], true),
+        (vec![(0, position - 30), (3, 10), (7, 20)], true),
+        (vec![(0, position - 30), (3, 10), (7, 21)], false),
+        (vec![(7, position + 1)], false),
+        (vec![(2, half), (5, half)], false), // 0, where a sum of 64 bits wraps
+        (vec![(0, 1), (7, u64::MAX)], false),
+        ((0..KEYS).map(|key| (key, u64::MAX)).collect(), false),
+    ]
+}
+
+/// Both ways in accept the words, or refuse them as 7.
+fn tried(console: &mut Console, words: &[u64], accepted: bool) {
+    let restored = Console::restore(PIANO, words, console.work()).map(|_| ());
+    if accepted {
+        assert_eq!(restored, Ok(()));
+        let before = console.words().to_vec();
+        console.set_words(words).unwrap();
+        assert_eq!(console.words(), words);
+        console.set_words(&before).unwrap();
+    } else {
+        assert_eq!(restored, Err(Refusal::RECORD));
+        refused(console, Refusal::RECORD, |c| c.set_words(words));
+    }
+}
+
+#[test]
+fn counts_whose_sum_passes_the_position_are_refused() {
+    let mut console = counted();
+    let words = console.words().to_vec();
+    assert_eq!(words[T], 2_000);
+    for (counts, accepted) in sums(2_000) {
+        tried(&mut console, &with_counts(&words, CONTACT_SAMPLES, &counts), accepted);
+    }
+}
+
+/// The sum of a kept cue is held to its own position, below t or above it.
+#[test]
+fn counts_of_a_cue_are_held_to_its_own_position() {
+    let mut console = Console::open(PIANO).unwrap();
+    play(&mut console, 100).unwrap();
+    console.cue().unwrap();
+    play(&mut console, 100).unwrap();
+    let words = console.words().to_vec();
+    assert_eq!((words[T], words[CUES], words[CUES + CUE_POSITION]), (200, 1, 100));
+    let at = CUES + CUE_CONTACT_SAMPLES;
+    tried(&mut console, &with_counts(&words, at, &[(3, 100), (4, 50)]), false);
+    for (counts, accepted) in sums(100) {
+        tried(&mut console, &with_counts(&words, at, &counts), accepted);
+    }
+    // a slot that keeps no cue may hold anything
+    let free = CUES + CUE + CUE_CONTACT_SAMPLES;
+    for (counts, _) in sums(100) {
+        tried(&mut console, &with_counts(&words, free, &counts), true);
+    }
+
+    console.go(50).unwrap();
+    let words = console.words().to_vec();
+    assert_eq!(words[T], 50);
+    tried(&mut console, &with_counts(&words, at, &[(3, 60), (4, 40)]), true);
+    tried(&mut console, &with_counts(&words, at, &[(3, 61), (4, 40)]), false);
+}
+
+/// Counts that are handed in are counted on from, each for its own key.
+#[test]
+fn counts_that_are_handed_in_go_on() {
+    let mut console = counted();
+    let words = with_counts(console.words(), CONTACT_SAMPLES, &[(0, 7), (5, 300)]);
+    console.set_words(&words).unwrap();
+    console.insert(2_000, Event::NoteOn { key: 64, velocity: 3.0 }).unwrap();
+    let played = play(&mut console, 700).unwrap();
+    assert!(played.key_contacts[5] > 300 && played.contacts > 307);
+    assert_eq!(played.key_contacts, [7, 0, 0, 0, 0, played.contacts - 7, 0, 0]);
+}
+
+/// What the calls answer from a session on; a play of no samples tells the counts.
+fn answers(console: &mut Console) -> Result<(Vec<Played>, [u64; 2], [Edited; 2]), Refusal> {
+    let mut played = vec![play(console, 400)?];
+    console.cue()?;
+    played.push(play(console, 300)?);
+    let back = console.go(2_400)?;
+    played.push(play(console, 0)?);
+    let first = console.go(900)?;
+    played.push(play(console, 0)?);
+    let edited = [console.insert(1_500, STRIKE)?, console.remove(0)?];
+    played.push(play(console, 1_600)?);
+    Ok((played, [back, first], edited))
+}
+
+/// The places past the last key, of the piano now and of a kept cue: any numbers are accepted there and no answer changes. A
+/// play leaves them, and a cue keeps them.
+#[test]
+fn counts_past_the_last_key_decide_nothing() {
+    let mut console = counted();
+    let (words, work) = (console.words().to_vec(), console.work().to_vec());
+    let mut changed = words.clone();
+    for at in [CONTACT_SAMPLES, CUES + CUE_CONTACT_SAMPLES] {
+        changed[at + KEYS..at + MOST_KEYS].fill(u64::MAX);
+    }
+    tried(&mut console, &changed, true);
+    let mut other = Console::restore(PIANO, &changed, &work).unwrap();
+    assert_eq!(other.contact_samples(), console.contact_samples());
+    assert!(other.key_contacts().eq(console.key_contacts()));
+    let past = |console: &Console| console.words()[CONTACT_SAMPLES + KEYS..CONTACT_SAMPLES + MOST_KEYS].to_vec();
+    let mut stepped = other.clone();
+    play(&mut stepped, 100).unwrap();
+    assert_eq!(past(&stepped), [u64::MAX; MOST_KEYS - KEYS]);
+    assert_eq!(stepped.go(900), Ok(0));
+    assert_eq!(past(&stepped), [u64::MAX; MOST_KEYS - KEYS]);
+    assert_eq!(answers(&mut other).unwrap(), answers(&mut console).unwrap());
+}
+
+/// An instrument of 16 keys has no place past the last: each key has its count, and all of them are in the sum.
+#[test]
+fn sixteen_keys_have_sixteen_counts() {
+    let like = Strings { keys: 16, n: 40, ..LEAST };
+    let mut console = Console::open(&instrument(&like)).unwrap();
+    for k in 0..16 {
+        console.insert(100 * k as u64, Event::NoteOn { key: KEY + k, velocity: 1.0 + k as f64 / 8.0 }).unwrap();
+    }
+    let played = play(&mut console, 1_700).unwrap();
+    assert_eq!(console.key_contacts().map(|(key, _)| key).collect::<Vec<_>>(), (KEY..KEY + 16).collect::<Vec<_>>());
+    assert!(played.key_contacts.len() == MOST_KEYS && played.key_contacts.iter().all(|count| *count > 0));
+    let mut words = console.words().to_vec();
+    words[CONTACT_SAMPLES + 15] += 1_700 - played.contacts;
+    console.set_words(&words).unwrap();
+    words[CONTACT_SAMPLES + 15] += 1;
+    refused(&mut console, Refusal::RECORD, |c| c.set_words(&words));
 }
 
 #[test]
@@ -249,7 +459,7 @@ fn what_is_restored_is_tested() {
     assert_eq!(restored(PIANO, &words, &work[1..]), Err(Refusal::WORK));
     assert_eq!(restored(PIANO, &words, &[&work[..], &[0.0]].concat()), Err(Refusal::WORK));
     // a hammer flies on the sixth key: no session of an instrument with one key
-    assert_eq!((words[NOW + 49], words[NOW + 50]), (1, 5));
+    assert_eq!((words[NOW + 65], words[NOW + 66]), (1, 5));
     assert_eq!(restored(&instrument(&LEAST), &words, &work), Err(Refusal::RECORD));
     let mut later = words.clone();
     later[T] = 2_000_000_001;

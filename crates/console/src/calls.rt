@@ -20,7 +20,7 @@ use text::script::Kind;
 fn played(turn: Turn, answer: Answer, m: usize) -> Turn {
     let mut next = turn;
     match answer {
-        Answer::Played(k) => {
+        Answer::Played { k, contacts } => {
             next.samples = m;
             next.forces = k;
             next

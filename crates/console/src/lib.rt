@@ -4,6 +4,7 @@ ghost use Prim.Native.Nat.{_≤_};
 ghost use lib.ListN.{length, take};
 
 mod calls;
+mod contact_list;
 mod cue_list;
 mod energy_list;
 pub mod parts;

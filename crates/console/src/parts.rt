@@ -1,6 +1,6 @@
 // Long calls in parts. A play that the output does not hold whole, and a go of many samples, are several calls of the session, so that the program can write what was played and show that
-// it is alive. What the parts leave is what the whole leaves, and their numbers add up to its number: `go-parts` and `play-parts` in session_theorem/specs/Parts. A call that would be
-// refused is refused at its first part, and changes nothing.
+// it is alive. What the parts leave is what the whole leaves, their numbers add up to its number, and the last part's contact samples are its own: `go-parts` and `play-parts` in
+// session_theorem/specs/Parts. A call that would be refused is refused at its first part, and changes nothing.
 use crate::Console;
 use crate::Response;
 use crate::Turn;
@@ -91,7 +91,7 @@ pub fn next_part(console: Console, task: Task, most: u64) -> Command {
 
 fn number_of(answer: Answer) -> u64 {
     match answer {
-        Answer::Played(k) => k as u64,
+        Answer::Played { k, contacts } => k as u64,
         Answer::Went(n) => n,
         _ => 0,
     }
@@ -163,7 +163,10 @@ pub fn after(task: Task, part: Command, turn: Turn) -> Task {
 
 fn totalled_answer(answer: Answer, earlier: u64) -> Answer {
     match answer {
-        Answer::Played(k) => Answer::Played(wrapping_add_u64(earlier, k as u64) as usize),
+        Answer::Played { k, contacts } => Answer::Played {
+            k: wrapping_add_u64(earlier, k as u64) as usize,
+            contacts,
+        },
         Answer::Went(n) => Answer::Went(wrapping_add_u64(earlier, n)),
         _ => answer,
     }

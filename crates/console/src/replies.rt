@@ -1,6 +1,7 @@
 // The line of text that answers a line of the script.
 use crate::Console;
 use crate::Response;
+use crate::contact_list;
 use crate::cue_list::put_cues;
 use crate::energy_list;
 use crate::fitting;
@@ -45,7 +46,7 @@ fn put_answer(line: &mut [u8], answer: Answer, instrument: Instrument) -> usize 
     match answer {
         Answer::Refused(number) => put_refusal(line, number),
         Answer::Opened => put_opened(line, instrument),
-        Answer::Played(k) => put_ok(line, k as u64),
+        Answer::Played { k, contacts } => put_pair(line, k as u64, contacts),
         Answer::Cued => put(line, 0, b"ok"),
         Answer::Went(n) => put_ok(line, n),
         Answer::Edited { t, dropped } => put_pair(line, t, dropped),
@@ -64,12 +65,22 @@ fn put_score(line: &mut [u8], at: usize, session: Session) -> usize {
     put_cues(line, k, cues)
 }
 
-fn put_state(line: &mut [u8], session: Session) -> usize {
+// The contact samples of all keys, then each key's, in the order of the file.
+fn put_contacts(line: &mut [u8], at: usize, instrument: Instrument, session: Session) -> usize {
+    let piano = session.piano;
+    let counts = piano.contact_samples;
+    let total = score::contacts(counts, instrument.key_count, session.t);
+    let contact = put_counted(line, at, b" contact ", total.sum);
+    let k = put(line, contact, b" keys");
+    contact_list::put_counts(line, k, counts, instrument.key_count)
+}
+
+fn put_state(line: &mut [u8], instrument: Instrument, session: Session) -> usize {
     let piano = session.piano;
     let motion = piano.motion;
     let t = put_counted(line, 0, b"ok t ", session.t);
-    let contact = put_counted(line, t, b" contact ", motion.contact_samples);
-    let peak = put_peak(line, contact, motion.peak_force);
+    let contacts = put_contacts(line, t, instrument, session);
+    let peak = put_peak(line, contacts, motion.peak_force);
     put_score(line, peak, session)
 }
 
@@ -99,6 +110,6 @@ pub fn put_reply(
         Response::Called(answer) => put_answer(line, answer, instrument),
         Response::Done => put(line, 0, b"ok"),
         Response::Energies => put_energies(line, instrument, console, work),
-        Response::State => put_state(line, console.session),
+        Response::State => put_state(line, instrument, console.session),
     }
 }

@@ -1,4 +1,5 @@
 pub mod Every
 pub mod Below
 pub mod Laws
+pub mod Sums
 pub mod Meets

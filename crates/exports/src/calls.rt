@@ -12,7 +12,7 @@ fn number_of(answer: Answer) -> u64 {
     match answer {
         Answer::Refused(n) => std::num::wrapping_add_u64(1_000_000, n),
         Answer::Opened => 0,
-        Answer::Played(k) => k as u64,
+        Answer::Played { k, contacts } => k as u64,
         Answer::Cued => 0,
         Answer::Went(n) => n,
         Answer::Edited { t, dropped } => t,

@@ -8,7 +8,6 @@ use score::Piano;
 use score::Score;
 use score::TimedEvent;
 ghost use Prim.Native.Nat.{_≤_};
-ghost use mathlib.Core.Path.{_≡_};
 
 // All of the piano that is not in its cells; of the hammer, whether it flies, its key, y_h and v_h. `forces` is how
 // many the block pushed.
@@ -17,12 +16,12 @@ pub struct Small {
     pub damper_r: [f64; 16],
     pub held: [bool; 16],
     pub hand_damped: [bool; 16],
+    pub contact_samples: [u64; 16],
     pub pedal: bool,
     pub flies: bool,
     pub key_index: usize,
     pub y_h: f64,
     pub v_h: f64,
-    pub contact_samples: u64,
     pub peak_force: f64,
     pub forces: usize,
 }
@@ -73,10 +72,9 @@ fn score_of(positions: &[u64], kinds: &[u8], keys: &[u8], velocities: &[f64]) ->
     Score { events, count }
 }
 
-fn piano_of(small: Small) -> Piano
-    ensures { λ r. ⌜ r .motion .«contact_samples» ≡ small .«contact_samples» ⌝ }
-{
+fn piano_of(small: Small) -> Piano {
     let damper_r = small.damper_r;
+    let contact_samples = small.contact_samples;
     let held = small.held;
     let hand_damped = small.hand_damped;
     let hammer = if small.flies {
@@ -90,13 +88,13 @@ fn piano_of(small: Small) -> Piano
     };
     let motion = Motion {
         hammer,
-        contact_samples: small.contact_samples,
         peak_force: small.peak_force,
     };
     Piano {
         held,
         hand_damped,
         damper_r,
+        contact_samples,
         pedal: small.pedal,
         motion,
     }
@@ -105,6 +103,7 @@ fn piano_of(small: Small) -> Piano
 fn small_of(run: Run) -> Small {
     let piano = run.piano;
     let damper_r = piano.damper_r;
+    let contact_samples = piano.contact_samples;
     let held = piano.held;
     let hand_damped = piano.hand_damped;
     let motion = piano.motion;
@@ -113,12 +112,12 @@ fn small_of(run: Run) -> Small {
         damper_r,
         held,
         hand_damped,
+        contact_samples,
         pedal: piano.pedal,
         flies: false,
         key_index: 0,
         y_h: 0.0,
         v_h: 0.0,
-        contact_samples: motion.contact_samples,
         peak_force: motion.peak_force,
         forces: run.pushed,
     };
@@ -138,8 +137,8 @@ fn small_of(run: Run) -> Small {
     }
 }
 
-// The block of `out`'s length from sample t on. Where the file is refused, the piano has more contacts than samples, or
-// a buffer is too short, nothing happens.
+// The block of `out`'s length from sample t on. Where the file is refused, the piano has more contacts than samples or
+// its hammer on a key that is not there, or a buffer is too short, nothing happens.
 #[no_mangle]
 pub extern "C" fn render_block(
     file: &[u8],
@@ -165,7 +164,8 @@ pub extern "C" fn render_block(
     if scratch.len() < instrument.string_count {
         return small;
     }
-    if t < small.contact_samples {
+    let piano = piano_of(small);
+    if !session_cues::is_sound_piano(instrument.key_count, t, piano) {
         return small;
     }
     let m = out.len() as u64;
@@ -176,6 +176,5 @@ pub extern "C" fn render_block(
         return small;
     }
     let score = score_of(positions, kinds, keys, velocities);
-    let piano = piano_of(small);
     small_of(render::render(part, scratch, out, trace, instrument, score, piano, t, m))
 }

@@ -23,18 +23,18 @@ use Rattle.gingerfile.specs.declared.Sizes.{Sizes}
 -- ---- answers as numbers
 
 abbrev pub refusedBy : ℕ → Report
-refusedBy n = record { refusal = n; value = 0; dropped = 0 }
+refusedBy n = record { refusal = n; value = 0; dropped = 0; contacts = 0 }
 
-abbrev pub acceptedWith : ℕ → ℕ → Report
-acceptedWith value dropped = record { refusal = 0; value = value; dropped = dropped }
+abbrev pub acceptedWith : ℕ → ℕ → ℕ → Report
+acceptedWith value dropped contacts = record { refusal = 0; value = value; dropped = dropped; contacts = contacts }
 
 unfoldable pub reportOf : Answer → Report
 reportOf (Refused n) = refusedBy n
-reportOf Opened = acceptedWith 0 0
-reportOf (Played k) = acceptedWith k 0
-reportOf Cued = acceptedWith 0 0
-reportOf (Went n) = acceptedWith n 0
-reportOf (Edited t dropped) = acceptedWith t dropped
+reportOf Opened = acceptedWith 0 0 0
+reportOf (Played k contacts) = acceptedWith k 0 contacts
+reportOf Cued = acceptedWith 0 0 0
+reportOf (Went n) = acceptedWith n 0 0
+reportOf (Edited t dropped) = acceptedWith t dropped 0
 
 -- what a file asks of its player; zeros where it is refused
 unfoldable pub sizesOf : ReadAnswer → Sizes

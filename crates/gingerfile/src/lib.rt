@@ -1,4 +1,4 @@
-// The piano for a program in C or Rust: numbers and lent slices alone cross. The instrument crosses as its file's bytes, the session as 541 words (crate session_words), an event by its
+// The piano for a program in C or Rust: numbers and lent slices alone cross. The instrument crosses as its file's bytes, the session as 616 words (crate session_words), an event by its
 // numbers. Each call reads the file and the words, makes the session's call, and writes the words; a refused call changes nothing, the words neither.
 ghost use mathlib.Core.Path.{_≡_};
 ghost use mathlib.Core.Bool.{_&&_};
@@ -18,12 +18,14 @@ use session::Answer;
 use session::Outcome;
 use session_record::Session;
 
-// What a call answers: the refusal's number, 0 for none; play's number of forces, go's number of samples or an edit's t; and an edit's number of cues dropped.
+// What a call answers: the refusal's number, 0 for none; play's number of forces, go's number of samples or an edit's t; an edit's number of cues dropped; and play's contact samples of all
+// keys at the new position.
 #[repr(C)]
 pub struct Report {
     pub refusal: u64,
     pub value: u64,
     pub dropped: u64,
+    pub contacts: u64,
 }
 
 // What a file asks of its player: the refusal's number, 0 for none; samples a second; keys and strings; words of a session, cells of work memory and of scratch.
@@ -63,6 +65,7 @@ fn refused(number: u64) -> Report
         refusal: number,
         value: 0,
         dropped: 0,
+        contacts: 0,
     }
 }
 
@@ -74,31 +77,37 @@ fn report_of(answer: Answer) -> Report
             refusal: number,
             value: 0,
             dropped: 0,
+            contacts: 0,
         },
         Answer::Opened => Report {
             refusal: 0,
             value: 0,
             dropped: 0,
+            contacts: 0,
         },
-        Answer::Played(k) => Report {
+        Answer::Played { k, contacts } => Report {
             refusal: 0,
             value: k as u64,
             dropped: 0,
+            contacts,
         },
         Answer::Cued => Report {
             refusal: 0,
             value: 0,
             dropped: 0,
+            contacts: 0,
         },
         Answer::Went(number) => Report {
             refusal: 0,
             value: number,
             dropped: 0,
+            contacts: 0,
         },
         Answer::Edited { t, dropped } => Report {
             refusal: 0,
             value: t,
             dropped,
+            contacts: 0,
         },
     }
 }
@@ -174,7 +183,7 @@ pub extern "C" fn gingerfile_read(file: &[u8]) -> Sizes
     }
 }
 
-// The words may hold anything before; 7 where there are not 541.
+// The words may hold anything before; 7 where there are not 616.
 #[no_mangle]
 pub extern "C" fn gingerfile_open(file: &[u8], words: &mut [u64], work: &mut [f64]) -> Report
     ensures { λ r. ⌜ Crosses (now (file .entry)) (eqb (length (now (words .entry))) sessionSize) (now (words .entry)) r (now (words .exit)) (now (work .exit) ≡ now (work .entry))

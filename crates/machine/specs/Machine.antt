@@ -9,7 +9,7 @@ use lib.ListN.{length, drop, getD}
 use Rattle.instrument.specs.declared.Instrument.{Instrument}
 use Rattle.score.specs.declared.TimedEvent.{TimedEvent}
 use Rattle.score.specs.Score.{noEvent}
-use Rattle.render.specs.Render.{renderSamples, renderForces}
+use Rattle.render.specs.Render.{renderSamples, renderForces, renderContacts}
 use Rattle.positions.specs.Positions.{isIn, above, upTo, greatest}
 use Rattle.score_edits.specs.Edits.{placed, removed}
 use Rattle.machine.specs.Refusals.{playRefusal, cueRefusal, goRefusal, insertRefusal, removeRefusal}
@@ -31,10 +31,11 @@ pub data Call : Type 0 where
   insert : (e : TimedEvent) → Call
   remove : (index : ℕ) → Call
 
--- "accepted, or the refusal's number; play's k; go's number; an edit's t and number dropped"; with play's samples and forces
+-- "accepted, or the refusal's number; play's k; go's number; an edit's t and number dropped"; with play's contact samples at its end, samples and forces. Document 02, W2: "play returns
+-- that sum beside k, compared as k is"
 pub data Reply : Type 0 where
   refused : (number : ℕ) → Reply
-  played : (k : ℕ) (samples forces : List Float) → Reply
+  played : (k contacts : ℕ) (samples forces : List Float) → Reply
   cued : Reply
   went : (replayed : ℕ) → Reply
   edited : (t dropped : ℕ) → Reply
@@ -69,7 +70,7 @@ unfoldable pub does : Instrument → Machine → Call → Machine × Reply
 does i p (Call.play scratch m trace) =
     unless (playRefusal i (p .t) scratch m trace) p (
       record { score = p .score; t = p .t + m; cues = p .cues },
-      Reply.played (length (blockForces i (p .score) (p .t) m)) (blockSamples i (p .score) (p .t) m) (blockForces i (p .score) (p .t) m),
+      Reply.played (length (blockForces i (p .score) (p .t) m)) (renderContacts i (p .score) (p .t + m)) (blockSamples i (p .score) (p .t) m) (blockForces i (p .score) (p .t) m),
     )
 does i p Call.cue =
     unless (cueRefusal (p .t) (p .cues)) p (record { score = p .score; t = p .t; cues = cond (isIn (p .t) (p .cues)) (p .cues) (p .t ∷ p .cues) }, Reply.cued)

@@ -11,20 +11,21 @@ use lib.Seq.{sets, length-sets}
 use lib.Ieee.{Float}
 use Rattle.cells.specs.Numbered.{list-length}
 use Rattle.instrument.specs.declared.Instrument.{Instrument}
-use Rattle.string.specs.Table.{tableStrings}
 use Rattle.sample.specs.declared.Motion.{Motion}
-use Rattle.sample.specs.Sample.{Model, Step, Ready, modelAt, sampled}
-use Rattle.sample.specs.Laws.{sampled-count, sampled-force, sampled-same}
+use Rattle.sample.specs.Sample.{Model, Step, Ready, modelAt, sampled, countedFor}
+use Rattle.sample.specs.Laws.{sampled-force, sampled-same}
 use Rattle.sample_constants.specs.Model.{setupOf, stringsOf, modelOf, keyIn, KeysFilled, StringsFilled}
 use Rattle.sample_constants.specs.Laws.{filled-fit, filled-strings, filled-model}
 use Rattle.score.specs.declared.Piano.{Piano}
 use Rattle.score.specs.declared.TimedEvent.{TimedEvent}
 use Rattle.score.specs.Events.{State, Playable, isDown, applyAll}
 use Rattle.score.specs.Score.{eventsAt}
-use Rattle.score.specs.Laws.{apply-all-count}
+use Rattle.score.specs.Contacts.{contactsOf}
+use Rattle.score.specs.Laws.{apply-all-count, counted-most}
 use Rattle.render.specs.declared.Run.{Run}
 use Rattle.render.specs.declared.Stretch.{Stretch}
 use Rattle.render.specs.Steps.{stateAfter, valuesOf, run-add, values-add, values-length, values-each, run-keeps, sets-append}
+use Rattle.render.specs.Hammers.{sampled-on, all-on}
 use Rattle.render.specs.Render.{Stepped, Rendering, Advanced, InRange, NextStretch, Renderable, Rendered, withMotion, stepped, sampleWith, sampleAt}
 use Rattle.render.specs.Render.{stateBy, samplesBy, forcesBy, run, renderingOf, unstarted, stretchStep}
 
@@ -98,16 +99,17 @@ advanced-rendered i score t m {b = b} w h =
 -- ---- one turn of the loop over samples
 
 -- the code's run where the loop stands
-abbrev pub runOf : Piano → List Float → Motion → ℕ → ℕ → Run
-runOf p R motion done pushed = record { piano = withMotion p R motion; done = done; pushed = pushed }
+abbrev pub runOf : Piano → List Float → List ℕ → Motion → ℕ → ℕ → Run
+runOf p R counts motion done pushed = record { piano = withMotion p R counts motion; done = done; pushed = pushed }
 
-module _ (m : Model) (down : ℕ → Bool) (t : ℕ) (p : Piano) (R : List Float) (motion : Motion) (w : List Float) (done pushed : ℕ)
-    (step : Step) (e : step ≡ sampled m down (t + done) R motion w) (pushed' : ℕ) (hp : pushed' ≡ pushed + length (step .force)) where
+module _ (m : Model) (down : ℕ → Bool) (t : ℕ) (p : Piano) (R : List Float) (counts : List ℕ) (motion : Motion) (w : List Float) (done pushed : ℕ)
+    (step : Step) (e : step ≡ sampled m down (t + done) R motion w) (counts' : List ℕ) (hc : counts' ≡ countedFor (motion .hammer) (step .contact) counts)
+    (pushed' : ℕ) (hp : pushed' ≡ pushed + length (step .force)) where
   abbrev before : Run
-  before = runOf p R motion done pushed
+  before = runOf p R counts motion done pushed
 
   abbrev after : Run
-  after = runOf p (step .«damper_r») (step .motion) (done + 1) pushed'
+  after = runOf p (step .«damper_r») counts' (step .motion) (done + 1) pushed'
 
   -- a sample, its output stored and its force pushed
   turn-advanced : {out trace out' trace' : List Float} → out' ≡ set out done (step .out) → trace' ≡ sets trace pushed (step .force)
@@ -117,21 +119,27 @@ module _ (m : Model) (down : ℕ → Bool) (t : ℕ) (p : Piano) (R : List Float
       let z : done + 1 - done ≡ 1 = omega arith in
       record {
         from = omega arith;
-        state = rw (z, add-zero (t + done), ← e);
+        state = rw (z, add-zero (t + done), ← e, hc);
         outs = rw (z, add-zero (t + done), ← e) ho;
         traced = rw (z, add-zero (t + done), ← e) ht;
         forced = rw (z, add-zero (t + done), ← e) hp;
       }
 
-  -- the counts stay within the position
-  turn-in-range : {stop : ℕ} → InRange before t stop → done < stop → InRange after t stop
-  turn-in-range r more =
-      let count = rw (← e) at (sampled-count m down (t + done) R motion w) in
+  -- the counts stay within the position, and the hammer on its key
+  turn-in-range : {keys stop : ℕ} → InRange keys before t stop → done < stop → InRange keys after t stop
+  unfolding contactsOf
+  turn-in-range {keys} r more =
+      let count = rw (← hc) at (counted-most keys (motion .hammer) (step .contact) counts) in
       let few = rw (← e) at (sampled-force m down (t + done) R motion w) in
-      record { below = omega arith; end = r .end; contact = omega (arith, r .contact); pushes = omega (arith, r .pushes) }
+      record {
+        below = omega arith;
+        end = r .end;
+        piano = record { contact = omega (arith, count, r .piano .contact); hammer = rw (← e) at (sampled-on keys m down (t + done) R motion w (r .piano .hammer)) };
+        pushes = omega (arith, r .pushes);
+      }
 
-  pub one-turn : {stop : ℕ} {out trace out' trace' : List Float} → InRange before t stop → done < stop → out' ≡ set out done (step .out) → trace' ≡ sets trace pushed (step .force)
-      → Advanced (stepped m down) t (renderingOf before w out trace) (renderingOf after (step .cells) out' trace') × InRange after t stop
+  pub one-turn : {keys stop : ℕ} {out trace out' trace' : List Float} → InRange keys before t stop → done < stop → out' ≡ set out done (step .out) → trace' ≡ sets trace pushed (step .force)
+      → Advanced (stepped m down) t (renderingOf before w out trace) (renderingOf after (step .cells) out' trace') × InRange keys after t stop
   one-turn r more ho ht = (turn-advanced ho ht, turn-in-range r more)
 
 -- ---- the samples of a stretch are the score's
@@ -192,15 +200,17 @@ module _ {i : Instrument} {lengths : List ℕ} {coefficients part scratch : List
     pub stretch-ready : (v : List Float) → length cells' ≡ length part → length v ≡ length scratch → Ready (s .setup) lengths coefficients cells' v
     stretch-ready v hw hv = rw (q .setup) (tables-ready cells' v hw hv)
 
-    pub stretch-in-range : InRange r t m → InRange (s .run) (s .t) (s .stop)
+    pub stretch-in-range : InRange (i .«key_count») r t m → InRange (s .setup .keys) (s .run) (s .t) (s .stop)
+    unfolding setupOf contactsOf
     stretch-in-range g =
-        let count = ap (λ (x : State). x .piano .motion .«contact_samples») (q .acted)
-        ∙ apply-all-count i (stringsOf i) (eventsAt score (t + r .done)) (record { piano = r .piano; cells = cells }) in
-        rw (q .start) (record {
-          below = omega (arith, q .done, q .more);
+        let es = eventsAt score (t + r .done) in
+        let S : State = record { piano = r .piano; cells = cells } in
+        let count = ap (λ (x : State). x .piano .«contact_samples») (q .acted) ∙ apply-all-count i (stringsOf i) es S in
+        rw (q .start, q .setup, q .done) (record {
+          below = omega (arith, q .more);
           end = omega (arith, g .end, q .most);
-          contact = omega (arith, count, g .contact, q .done);
-          pushes = omega (arith, g .pushes, q .done, q .pushed);
+          piano = record { contact = rw count (g .piano .contact); hammer = rw (← (q .acted)) at (all-on i (stringsOf i) es S (g .piano .hammer)) };
+          pushes = omega (arith, g .pushes, q .pushed);
         })
 
     -- its samples are samples of the score
@@ -232,7 +242,8 @@ module _ {i : Instrument} {lengths : List ℕ} {coefficients part scratch : List
           forced = rw (listed (λ x. x .force)) (went .forced);
         }
 
-    pub stretch-done : {r' : Run} → InRange r t m → InRange r' (s .t) (s .stop) → InRange r' t m
+    pub stretch-done : {r' : Run} → InRange (i .«key_count») r t m → InRange (s .setup .keys) r' (s .t) (s .stop) → InRange (i .«key_count») r' t m
+    unfolding setupOf
     stretch-done g h =
-        let k = rw (q .start) at h in
-        record { below = omega (arith, k .below, q .most); end = g .end; contact = k .contact; pushes = k .pushes }
+        let k = rw (q .start, q .setup) at h in
+        record { below = omega (arith, k .below, q .most); end = g .end; piano = k .piano; pushes = k .pushes }

@@ -1,28 +1,32 @@
 -- The laws of the render that the layers above need: a run of m + k is the run of m, then of k; the state at p depends only on the events below p;
--- contact_samples is at most the position; lengths stay.
+-- lengths stay; the keys' counts add up to the Rust's one count, which is at most the position.
 use mathlib.Core.Path.{_≡_, refl, ap, _∙_}
-use mathlib.Core.Bool.{Bool}
+use mathlib.Core.Bool.{Bool, true, cond}
 use mathlib.Core.List.{List, [], _∷_, _++_}
 use Prim.Native.Nat.{ℕ, zero, suc, _+_, _≤_, _<_}
 use native.Mathlib.Nat.{zero-add}
 use native.Mathlib.Omega.{arith}
 use lib.ListN.{length, length-replicate}
 use lib.Ieee.{Float}
+use Rattle.counting.specs.Below.{sumBelow}
+use Rattle.counting.specs.Sums.{sumOf, sum-zeros}
 use Rattle.instrument.specs.declared.Instrument.{Instrument}
 use Rattle.strings.specs.Strings.{cellsOf, readsAll, vIns, filteredAll, pointsAll, nutsAll}
 use Rattle.strings.specs.Laws.{filtered-all-length, points-all-length, nuts-all-length, bridge-all-length}
 use Rattle.keys.specs.Keys.{dampers, bridgeSpeeds}
 use Rattle.sample.specs.declared.Motion.{Motion}
 use Rattle.sample.specs.Sample.{Model, sampled}
-use Rattle.sample.specs.Laws.{sampled-count, sampled-force}
+use Rattle.sample.specs.Laws.{sampled-contact, sampled-force}
 use Rattle.sample_constants.specs.Model.{stringsOf, modelOf}
 use Rattle.score.specs.declared.Event.{Event}
 use Rattle.score.specs.declared.TimedEvent.{TimedEvent}
 use Rattle.score.specs.Events.{State, isDown, applyAll}
 use Rattle.score.specs.Score.{eventsAt}
-use Rattle.score.specs.Laws.{apply-all-count, apply-all-length}
+use Rattle.score.specs.Contacts.{contactsOf, hammerOn}
+use Rattle.score.specs.Laws.{apply-all-count, apply-all-length, counted-sum, counted-most, counted-length}
 use Rattle.render.specs.Steps.{stateAfter, run-add, values-add, values-length, values-few, run-same}
-use Rattle.render.specs.Render.{stepped, sampleWith, sampleAt, silentPiano, silence, run, samples, forces, renderState, renderSamples, renderForces}
+use Rattle.render.specs.Render.{PianoAt, stepped, sampleWith, sampleAt, silentPiano, silence, run, samples, forces, renderState, renderSamples, renderForces, renderContacts}
+use Rattle.render.specs.Hammers.{all-on, render-hammer}
 
 -- ---- one sample
 
@@ -51,11 +55,27 @@ module _ (i : Instrument) (es : List Event) (t : ℕ) (s : State) where
   abbrev acted : State
   acted = applyAll i (stringsOf i) es s
 
-  sample-count : sampleWith i es t s .state .piano .motion .«contact_samples» ≤ s .piano .motion .«contact_samples» + 1
+  -- the counts' sum goes up by one at most
+  sample-most : (keys : ℕ) → contactsOf keys (sampleWith i es t s .state .piano) ≤ contactsOf keys (s .piano) + 1
+  unfolding sampleWith stepped contactsOf
+  sample-most keys =
+      let most = counted-most keys (acted .piano .motion .hammer) (sampleWith i es t s .contact) (acted .piano .«contact_samples») in
+      omega (arith, most, ap (sumOf keys) (apply-all-count i (stringsOf i) es s))
+
+  -- there are as many counts as before
+  sample-counts : length (sampleWith i es t s .state .piano .«contact_samples») ≡ length (s .piano .«contact_samples»)
   unfolding sampleWith stepped
-  sample-count =
-      let count = sampled-count (modelOf i) (isDown i (acted .piano)) t (acted .piano .«damper_r») (acted .piano .motion) (acted .cells) in
-      omega (arith, apply-all-count i (stringsOf i) es s)
+  sample-counts = counted-length (acted .piano .motion .hammer) _ (acted .piano .«contact_samples») ∙ ap length (apply-all-count i (stringsOf i) es s)
+
+  -- and it goes up by one exactly in contact, where the hammer is on a key that is there
+  sample-sum : hammerOn (i .«key_count») (s .piano .motion .hammer) ≡ true → i .«key_count» ≤ length (s .piano .«contact_samples»)
+      → contactsOf (i .«key_count») (sampleWith i es t s .state .piano) ≡ contactsOf (i .«key_count») (s .piano) + cond (sampleWith i es t s .contact) 1 0
+  unfolding sampleWith stepped contactsOf
+  sample-sum on few =
+      counted-sum (i .«key_count») (acted .piano .motion .hammer) (sampleWith i es t s .contact) (acted .piano .«contact_samples») (all-on i (stringsOf i) es s on)
+      (omega (arith, few, ap length (apply-all-count i (stringsOf i) es s)))
+      (sampled-contact (modelOf i) (isDown i (acted .piano)) t (acted .piano .«damper_r») (acted .piano .motion) (acted .cells))
+      ∙ ap (λ (counts : List ℕ). sumOf (i .«key_count») counts + cond (sampleWith i es t s .contact) 1 0) (apply-all-count i (stringsOf i) es s)
 
   sample-length : cellsOf (stringsOf i) ≤ length (s .cells) → length (sampleWith i es t s .state .cells) ≡ length (s .cells)
   unfolding sampleWith stepped
@@ -66,6 +86,17 @@ module _ (i : Instrument) (es : List Event) (t : ℕ) (s : State) where
   sample-force : length (sampleWith i es t s .force) ≤ 1
   unfolding sampleWith stepped
   sample-force = sampled-force (modelOf i) (isDown i (acted .piano)) t (acted .piano .«damper_r») (acted .piano .motion) (acted .cells)
+
+-- ---- silence
+
+silent-contacts : (keys : ℕ) → contactsOf keys silentPiano ≡ 0
+unfolding silentPiano contactsOf
+silent-contacts keys = sum-zeros keys 16
+
+-- it can be rendered from any position on
+pub silent-at : (keys t : ℕ) → PianoAt keys silentPiano t
+unfolding silentPiano hammerOn
+silent-at keys t = record { contact = omega (arith, silent-contacts keys); hammer = refl }
 
 -- ---- a run of a score
 
@@ -87,11 +118,17 @@ module _ (i : Instrument) (score : List TimedEvent) where
   pub forces-few : (t n : ℕ) (s : State) → length (forces i score t n s) ≤ n
   forces-few t n s = values-few (λ u x. sampleAt i score u x .state) (λ u x. sampleAt i score u x .force) t n s (λ u x. sample-force i (eventsAt score u) u x)
 
-  -- contact_samples goes up by one a sample at most
-  pub run-contact : (t n : ℕ) (s : State) → run i score t n s .piano .motion .«contact_samples» ≤ s .piano .motion .«contact_samples» + n
+  -- the counts' sum goes up by one a sample at most
+  pub run-contact : (keys t n : ℕ) (s : State) → contactsOf keys (run i score t n s .piano) ≤ contactsOf keys (s .piano) + n
   unfolding stateAfter
-  run-contact t zero s = omega arith
-  run-contact t (suc n) s = omega (arith, sample-count i (eventsAt score (t + n)) (t + n) (run i score t n s), run-contact t n s)
+  run-contact keys t zero s = omega arith
+  run-contact keys t (suc n) s = omega (arith, sample-most i (eventsAt score (t + n)) (t + n) (run i score t n s) keys, run-contact keys t n s)
+
+  -- as many counts as before
+  run-counts : (t n : ℕ) (s : State) → length (run i score t n s .piano .«contact_samples») ≡ length (s .piano .«contact_samples»)
+  unfolding stateAfter
+  run-counts t zero s = refl
+  run-counts t (suc n) s = sample-counts i (eventsAt score (t + n)) (t + n) (run i score t n s) ∙ run-counts t n s
 
   -- the number of cells stays
   pub run-length : (t n : ℕ) (s : State) → cellsOf (stringsOf i) ≤ length (s .cells) → length (run i score t n s .cells) ≡ length (s .cells)
@@ -112,10 +149,26 @@ module _ (i : Instrument) (score : List TimedEvent) where
   pub render-forces : (t m : ℕ) → renderForces i score (t + m) ≡ renderForces i score t ++ forces i score t m (renderState i score t)
   render-forces t m = forces-then 0 t m (silence i) ∙ ap (λ (u : ℕ). renderForces i score t ++ forces i score u m (renderState i score t)) (zero-add t)
 
-  -- contact_samples is at most the position
-  pub render-contact : (p : ℕ) → renderState i score p .piano .motion .«contact_samples» ≤ p
+  silent-sum : (keys : ℕ) → contactsOf keys (silence i .piano) ≡ 0
+  unfolding silence
+  silent-sum keys = silent-contacts keys
+
+  -- the counts' sum is at most the position
+  pub render-contact : (p : ℕ) → contactsOf (i .«key_count») (renderState i score p .piano) ≤ p
+  render-contact p = omega (arith, run-contact (i .«key_count») 0 p (silence i), silent-sum (i .«key_count»))
+
+  render-counts : (p : ℕ) → length (renderState i score p .piano .«contact_samples») ≡ 16
   unfolding silence silentPiano
-  render-contact p = omega (arith, run-contact 0 p (silence i))
+  render-counts p = run-counts 0 p (silence i) ∙ length-replicate {A = ℕ} 16 0
+
+  -- the keys' counts at p add up to the samples before p that were in contact: the Rust's one count
+  pub render-sum : i .«key_count» ≤ 16 → (p : ℕ) → contactsOf (i .«key_count») (renderState i score p .piano) ≡ renderContacts i score p
+  unfolding stateAfter renderContacts sumBelow
+  render-sum few zero = silent-sum (i .«key_count»)
+  render-sum few (suc p) =
+      ap (λ (t : ℕ). contactsOf (i .«key_count») (sampleAt i score t (renderState i score p) .state .piano)) (zero-add p)
+      ∙ sample-sum i (eventsAt score p) p (renderState i score p) (render-hammer i score p) (omega (arith, few, render-counts p))
+      ∙ ap (λ (n : ℕ). n + cond (sampleAt i score p (renderState i score p) .contact) 1 0) (render-sum few p)
 
   -- a state of a render has W cells
   pub render-length : (p : ℕ) → length (renderState i score p .cells) ≡ cellsOf (stringsOf i)

@@ -1,5 +1,5 @@
 pub mod Steps
 pub mod Render
+pub mod Hammers
 pub mod Laws
 pub mod Work
-pub mod Hammers

@@ -1,42 +1,53 @@
 -- Document 01: "The render of a score goes from silence through samples 0, 1, 2 and on, in one run, each by the rules for one sample." Definitions only.
 use Rattle.float.specs.Float.{zero as +0}
 use mathlib.Core.Path.{_≡_}
-use mathlib.Core.Bool.{Bool, false}
+use mathlib.Core.Bool.{Bool, true, false, cond}
 use mathlib.Core.List.{List, [], _∷_}
 use Prim.Native.Nat.{ℕ, _+_, _-_, _≤_, _<_, _^_}
 use lib.ListN.{length, getD, replicate}
 use lib.Seq.{sets}
 use lib.Ieee.{Float}
+use Rattle.counting.specs.Below.{sumBelow}
 use Rattle.instrument.specs.declared.Instrument.{Instrument}
 use Rattle.points.specs.declared.HammerState.the-variants.{Resting}
 use Rattle.strings.specs.Strings.{cellsOf}
 use Rattle.sample.specs.declared.Motion.{Motion}
-use Rattle.sample.specs.Sample.{Model, modelAt, sampled}
+use Rattle.sample.specs.Sample.{Model, modelAt, sampled, countedFor}
 use Rattle.sample_constants.specs.Model.{setupOf, stringsOf, modelOf}
 use Rattle.score.specs.declared.Piano.{Piano}
 use Rattle.score.specs.declared.Event.{Event}
 use Rattle.score.specs.declared.TimedEvent.{TimedEvent}
 use Rattle.score.specs.Events.{State, AllDown, isDown, applyAll}
 use Rattle.score.specs.Score.{eventsAt}
+use Rattle.score.specs.Contacts.{contactsOf, hammerOn}
 use Rattle.render.specs.declared.Run.{Run}
 use Rattle.render.specs.declared.Stretch.{Stretch}
 use Rattle.render.specs.Steps.{stateAfter, valuesOf}
 
--- what a sample leaves: the state after it, its output, and the force pushed, one or none
+-- what a sample leaves: the state after it, its output, the force pushed, one or none, and whether a hammer flew in contact
 pub record Stepped : Type 0 where
   pub state : State
   pub out : Float
   pub force : List Float
+  pub contact : Bool
 
--- a piano with its dampers and its hammer moved
-abbrev pub withMotion : Piano → List Float → Motion → Piano
-withMotion p R motion = record { held = p .held; «hand_damped» = p .«hand_damped»; «damper_r» = R; pedal = p .pedal; motion = motion }
+-- a piano with its dampers and its hammer moved, and its contacts counted
+abbrev pub withMotion : Piano → List Float → List ℕ → Motion → Piano
+withMotion p R counts motion =
+    record { held = p .held; «hand_damped» = p .«hand_damped»; «damper_r» = R; «contact_samples» = counts; pedal = p .pedal; motion = motion }
 
--- sample t after its events
+-- sample t after its events; in contact it counts for the key of the hammer that flies
 unfoldable pub stepped : Model → (ℕ → Bool) → ℕ → State → Stepped
 stepped m down t s =
-    let step = sampled m down t (s .piano .«damper_r») (s .piano .motion) (s .cells) in
-    record { state = record { piano = withMotion (s .piano) (step .«damper_r») (step .motion); cells = step .cells }; out = step .out; force = step .force }
+    let piano = s .piano in
+    let step = sampled m down t (piano .«damper_r») (piano .motion) (s .cells) in
+    let counts = countedFor (piano .motion .hammer) (step .contact) (piano .«contact_samples») in
+    record {
+      state = record { piano = withMotion piano (step .«damper_r») counts (step .motion); cells = step .cells };
+      out = step .out;
+      force = step .force;
+      contact = step .contact;
+    }
 
 -- one sample of an instrument: the events that act on sample t, then the sample
 unfoldable pub sampleWith : Instrument → List Event → ℕ → State → Stepped
@@ -74,8 +85,9 @@ silentPiano = record {
   held = replicate 16 false;
   «hand_damped» = replicate 16 false;
   «damper_r» = replicate 16 +0;
+  «contact_samples» = replicate 16 0;
   pedal = false;
-  motion = record { hammer = Resting; «contact_samples» = 0; «peak_force» = +0 };
+  motion = record { hammer = Resting; «peak_force» = +0 };
 }
 
 unfoldable pub silence : Instrument → State
@@ -90,6 +102,10 @@ renderSamples i score p = samples i score 0 p (silence i)
 
 abbrev pub renderForces : Instrument → List TimedEvent → ℕ → List Float
 renderForces i score p = forces i score 0 p (silence i)
+
+-- the Rust's contact_samples at p: of the render's samples before p, how many were in contact, whatever their key
+unfoldable pub renderContacts : Instrument → List TimedEvent → ℕ → ℕ
+renderContacts i score p = sumBelow p (λ t. cond (sampleAt i score t (renderState i score t) .contact) 1 0)
 
 -- A render in progress: its state, the output and the trace lent to it, and how many samples and forces it has stored there.
 pub record Rendering : Type 0 where
@@ -115,11 +131,16 @@ pub record Advanced (step : ℕ → State → Stepped) (t : ℕ) (a b : Renderin
   pub traced : b .trace ≡ sets (a .trace) (a .pushed) (forcesBy step (t + a .done) (b .done - a .done) (a .state))
   pub forced : b .pushed ≡ a .pushed + length (forcesBy step (t + a .done) (b .done - a .done) (a .state))
 
+-- what a piano of so many keys must be, to be rendered from position t on: its contacts are not above t, its hammer is on a key that is there
+pub record PianoAt (keys : ℕ) (p : Piano) (t : ℕ) : Type 0 where
+  pub contact : contactsOf keys p ≤ t
+  pub hammer : hammerOn keys (p .motion .hammer) ≡ true
+
 -- a run whose counts are within its position, with samples left up to `stop`
-pub record InRange (r : Run) (t stop : ℕ) : Type 0 where
+pub record InRange (keys : ℕ) (r : Run) (t stop : ℕ) : Type 0 where
   pub below : r .done ≤ stop
   pub end : t + stop < 2 ^ 64
-  pub contact : r .piano .motion .«contact_samples» ≤ t + r .done
+  pub piano : PianoAt keys (r .piano) (t + r .done)
   pub pushes : r .pushed ≤ r .done
 
 -- an instrument of at most 16 keys and 32 strings, with cells for its strings

@@ -14,7 +14,7 @@ ghost use Rattle.sample.specs.Sample.{Ready, forcesOf};
 ghost use Rattle.sample_constants.specs.Model.{StringsFilled};
 ghost use Rattle.score.specs.Events.{Playable};
 ghost use Rattle.score.specs.Score.{eventsOf};
-ghost use Rattle.render.specs.Render.{Advanced, InRange, NextStretch, Renderable, Rendered, renderingOf, unstarted, stretchStep, silentPiano};
+ghost use Rattle.render.specs.Render.{Advanced, InRange, PianoAt, NextStretch, Renderable, Rendered, renderingOf, unstarted, stretchStep, silentPiano};
 
 // A run in progress: the piano, how many samples are done, and how many forces were pushed.
 pub struct Run {
@@ -67,11 +67,11 @@ fn play_stretch(
     stretch: Stretch,
 ) -> Run
     requires { ⌜ Ready (stretch .setup) (now lengths) (now coefficients) (now part) (now scratch) ⌝ }
-    requires { ⌜ InRange (stretch .run) (stretch .t) (stretch .stop) ⌝ }
+    requires { ⌜ InRange (stretch .setup .keys) (stretch .run) (stretch .t) (stretch .stop) ⌝ }
     ensures { λ r. ⌜ Advanced (stretchStep stretch (now (table .entry)) (now (lengths .entry)) (now (coefficients .entry))) (stretch .t)
         (renderingOf (stretch .run) (now (part .entry)) (now (out .entry)) (now (trace .entry)))
         (renderingOf r (now (part .exit)) (now (out .exit)) (now (trace .exit)))
-        × (r .done ≡ stretch .stop) × InRange r (stretch .t) (stretch .stop) ⌝ }
+        × (r .done ≡ stretch .stop) × InRange (stretch .setup .keys) r (stretch .t) (stretch .stop) ⌝ }
 {
     let setup = stretch.setup;
     let down = stretch.down;
@@ -80,6 +80,7 @@ fn play_stretch(
     let held = piano.held;
     let hand_damped = piano.hand_damped;
     let mut damper_r = piano.damper_r;
+    let mut contact_samples = piano.contact_samples;
     let mut motion = piano.motion;
     let mut done = run.done;
     let mut pushed = run.pushed;
@@ -88,6 +89,7 @@ fn play_stretch(
     let mut indices = strings::first_indices(lengths, coefficients, setup.strings, t + done);
     while done < stop {
         let at = t + done;
+        let hammer = motion.hammer;
         let s = sample::sample(
             part,
             scratch,
@@ -102,6 +104,7 @@ fn play_stretch(
             at,
         );
         strings::next_indices(&mut indices, lengths, coefficients, setup.strings, at);
+        sample::count_contact(&mut contact_samples, hammer, s.contact);
         put(out, done as usize, s.out);
         pushed = push(trace, pushed, s.pushed, s.force);
         motion = s.motion;
@@ -112,6 +115,7 @@ fn play_stretch(
             held,
             hand_damped,
             damper_r,
+            contact_samples,
             pedal: piano.pedal,
             motion,
         },
@@ -186,7 +190,7 @@ pub fn render(
 ) -> Run
     requires { ⌜ Renderable instrument (now part) (now scratch) ⌝ }
     requires { ⌜ score .count ≤ 64 ⌝ }
-    requires { ⌜ piano .motion .«contact_samples» ≤ t ⌝ }
+    requires { ⌜ PianoAt (instrument .«key_count») piano t ⌝ }
     requires { ⌜ t + m < 2 ^ 64 ⌝ }
     ensures { λ r. ⌜ Rendered instrument (eventsOf score) t m (unstarted piano (now (part .entry)) (now (out .entry)) (now (trace .entry)))
         (renderingOf r (now (part .exit)) (now (out .exit)) (now (trace .exit))) ⌝ }
@@ -224,10 +228,10 @@ pub fn silent_piano() -> Piano
         held: [false; 16],
         hand_damped: [false; 16],
         damper_r: [0.0; 16],
+        contact_samples: [0; 16],
         pedal: false,
         motion: Motion {
             hammer: HammerState::Resting,
-            contact_samples: 0,
             peak_force: 0.0,
         },
     }

@@ -3,7 +3,7 @@
 use Rattle.float.specs.Float.{zero as +0}
 use mathlib.Core.Path.{_≡_, sym, _∙_}
 use mathlib.Core.List.{List, _++_}
-use mathlib.Core.Bool.{Bool}
+use mathlib.Core.Bool.{Bool, _&&_}
 use Prim.Native.Nat.{ℕ, _≤_}
 use lib.ListN.{length}
 use lib.Ieee.{Float}
@@ -24,7 +24,7 @@ module _ (m : Model) (down : ℕ → Bool) (t : ℕ) (R : List Float) (motion : 
     (h1 : w1 ≡ filteredAll (m .strings) t w)
     (h2 : w2 ≡ turnedAll (m .constants) (motion .hammer) R' (m .strings) t w1)
     (hf : f ≡ forceAll (m .constants) (motion .hammer) (m .strings) t w1 noForce)
-    (hm : after ≡ moved (m .constants) (motion .hammer) (motion .«contact_samples») (motion .«peak_force») f)
+    (hm : after ≡ moved (m .constants) (motion .hammer) (motion .«peak_force») f)
     (hb : Bridged m t (vIns (m .strings) t w ++ rest) w2 w3 out)
     (hp : pushed ≡ pushedBy (motion .hammer)) where
   abbrev ds : List StringDesign
@@ -59,6 +59,8 @@ module _ (m : Model) (down : ℕ → Bool) (t : ℕ) (R : List Float) (motion : 
   out-is : out ≡ bridgeForce (m .constants .z) speeds v ds nuts +0
   out-is = rw (speeds-are, w2-is) at (hb .out) ∙ bridge-force-front speeds v rest ds nuts one-each (m .constants .z) +0
 
-  pub sample-is : _≡_ {A = Step} (record { «damper_r» = R'; motion = after; cells = w3; out = out; force = forcesOf pushed (f .«force_sum») }) (sampled m down t R motion w)
+  pub sample-is
+      : _≡_ {A = Step} (record { «damper_r» = R'; motion = after; cells = w3; out = out; force = forcesOf pushed (f .«force_sum»); contact = pushed && f .«any_contact» })
+      (sampled m down t R motion w)
   unfolding sampled
   sample-is = rw (hR, hm, w3-is, out-is, hp, f-is)

@@ -1,38 +1,27 @@
--- A sample counts one contact at most and pushes one force at most; it reads of `down` only the keys there are, and of the lent cells asks only their number.
+-- Only a hammer that flies is in contact; a sample pushes one force at most; it reads of `down` only the keys there are, and of the lent cells asks only their number.
 use mathlib.Core.Path.{_≡_}
-use mathlib.Core.Bool.{Bool, true, false, cond}
+use mathlib.Core.Bool.{Bool, true, false}
 use mathlib.Core.List.{List}
-use Prim.Native.Nat.{ℕ, _+_, _≤_, _<_}
+use Prim.Native.Nat.{ℕ, _≤_, _<_}
 use native.Mathlib.Omega.{arith}
 use lib.ListN.{length}
 use lib.Ieee.{Float}
-use Rattle.points.specs.declared.Constants.{Constants}
-use Rattle.points.specs.declared.HammerState.{HammerState}
-use Rattle.points.specs.declared.HammerState.the-variants.{Resting, Flying}
-use Rattle.points.specs.declared.ForceSum.{ForceSum}
+use Rattle.points.specs.declared.HammerState.the-variants.{Resting}
 use Rattle.keys.specs.Laws.{dampers-same}
 use Rattle.sample.specs.declared.Motion.{Motion}
 use Rattle.sample.specs.declared.Setup.{Setup}
-use Rattle.sample.specs.Sample.{Model, Ready, moved, pushedBy, forcesOf, sampled}
+use Rattle.sample.specs.Sample.{Model, Ready, pushedBy, forcesOf, sampled}
 
 -- cells that are ready stay so: only their number is asked
 pub ready-kept : {setup : Setup} {lengths : List ℕ} {coefficients w v w' v' : List Float} → Ready setup lengths coefficients w v → length w' ≡ length w → length v' ≡ length v
     → Ready setup lengths coefficients w' v'
 ready-kept r hw hv = record { fit = r .fit; keys = r .keys; cells = omega (arith, r .cells); scratch = omega (arith, r .scratch) }
 
-moved-count : (c : Constants) (h : HammerState) (n : ℕ) (peak : Float) (f : ForceSum) → moved c h n peak f .«contact_samples» ≤ n + 1
-unfolding moved
-moved-count c Resting n peak f = omega arith
-moved-count c (Flying key y v) n peak f = by-test (f .«any_contact») where
-  by-test : (b : Bool) → cond b (n + 1) n ≤ n + 1
-  by-test true = omega arith
-  by-test false = omega arith
-
 module _ (m : Model) (down : ℕ → Bool) (t : ℕ) (R : List Float) (motion : Motion) (w : List Float) where
-  -- contact_samples goes up by one at most
-  pub sampled-count : sampled m down t R motion w .motion .«contact_samples» ≤ motion .«contact_samples» + 1
-  unfolding sampled
-  sampled-count = moved-count (m .constants) (motion .hammer) (motion .«contact_samples») (motion .«peak_force») _
+  -- only a hammer that flies is in contact
+  pub sampled-contact : motion .hammer ≡ Resting → sampled m down t R motion w .contact ≡ false
+  unfolding sampled pushedBy
+  sampled-contact e = rw e
 
   -- one force or none
   pub sampled-force : length (sampled m down t R motion w .force) ≤ 1

@@ -5,15 +5,13 @@ use points::ForceSum;
 use points::HammerState;
 ghost use mathlib.Core.Path.{_≡_};
 ghost use mathlib.Core.Bool.{false};
-ghost use Prim.Native.Nat.{_+_, _<_, _^_};
 ghost use lib.ListN.{getD};
 ghost use Rattle.strings.specs.Strings.{Indexed};
-ghost use Rattle.sample.specs.Sample.{Ready, Bridged, modelAt, sampled, stepOf, hammerAfter, moved, pushedBy};
+ghost use Rattle.sample.specs.Sample.{Ready, Bridged, CanCount, modelAt, sampled, stepOf, hammerAfter, moved, pushedBy, countedFor};
 
-// The hammer, if one flies, and what is counted of its contacts.
+// The hammer, if one flies, and the greatest force that it met.
 pub struct Motion {
     pub hammer: HammerState,
-    pub contact_samples: u64,
     pub peak_force: f64,
 }
 
@@ -24,12 +22,13 @@ pub struct Setup {
     pub strings: usize,
 }
 
-// What a sample gives: the hammer after it, the output, and the force that it pushes, if a hammer flew.
+// What a sample gives: the hammer after it, the output, the force that it pushes, if a hammer flew, and whether that hammer was in contact.
 pub struct Sampled {
     pub motion: Motion,
     pub out: f64,
     pub pushed: bool,
     pub force: f64,
+    pub contact: bool,
 }
 
 // The bridge: each key's sum, the weighted total, each key's speed, and the strings' ends.
@@ -90,8 +89,7 @@ fn hammer_after(any_contact: bool, key_index: usize, y_h: f64, v_h: f64) -> Hamm
 
 // The hammer's motion under the strings' forces.
 fn move_hammer(c: Constants, motion: Motion, f: ForceSum) -> Motion
-    requires { ⌜ motion .«contact_samples» + 1 < 2 ^ 64 ⌝ }
-    ensures { λ r. ⌜ r ≡ moved c (motion .hammer) (motion .«contact_samples») (motion .«peak_force») f ⌝ }
+    ensures { λ r. ⌜ r ≡ moved c (motion .hammer) (motion .«peak_force») f ⌝ }
 {
     let hammer = c.hammer;
     let h = motion.hammer;
@@ -108,13 +106,11 @@ fn move_hammer(c: Constants, motion: Motion, f: ForceSum) -> Motion
             if f.any_contact {
                 Motion {
                     hammer: after,
-                    contact_samples: motion.contact_samples + 1,
                     peak_force: max(motion.peak_force, f.force_sum),
                 }
             } else {
                 Motion {
                     hammer: after,
-                    contact_samples: motion.contact_samples,
                     peak_force: motion.peak_force,
                 }
             }
@@ -152,7 +148,6 @@ pub fn sample(
 ) -> Sampled
     requires { ⌜ Ready setup (now lengths) (now coefficients) (now part) (now scratch) ⌝ }
     requires { ⌜ Indexed (now lengths) (now coefficients) (now indices) (setup .strings) t ⌝ }
-    requires { ⌜ motion .«contact_samples» + 1 < 2 ^ 64 ⌝ }
     ensures { λ r. ⌜ stepOf r (now («damper_r» .exit)) (now (part .exit))
         ≡ sampled (modelAt setup (now (table .entry)) (now (lengths .entry)) (now (coefficients .entry))) (λ k. getD (now (down .entry)) k false)
         t (now («damper_r» .entry)) motion (now (part .entry)) ⌝ }
@@ -197,5 +192,25 @@ pub fn sample(
         out,
         pushed,
         force: f.force_sum,
+        contact: pushed & f.any_contact,
+    }
+}
+
+// A sample in contact counts for the key of the hammer that flies.
+pub fn count_contact(contact_samples: &mut [u64; 16], h: HammerState, contact: bool)
+    requires { ⌜ CanCount (now «contact_samples») h ⌝ }
+    ensures { λ _. ⌜ now («contact_samples» .exit) ≡ countedFor h contact (now («contact_samples» .entry)) ⌝ }
+{
+    match h {
+        HammerState::Resting => {}
+        HammerState::Flying {
+            key_index,
+            y_h,
+            v_h,
+        } => {
+            if contact {
+                contact_samples[key_index] += 1;
+            }
+        }
     }
 }

@@ -1,15 +1,19 @@
--- The loops over keys and over events, one turn each.
-use mathlib.Core.Path.{_≡_, sym, ap, _∙_}
+-- The loops over keys, over events and over the keys' counts, one turn each.
+use mathlib.Core.Path.{_≡_, refl, sym, ap, _∙_}
 use mathlib.Core.List.{List, [], _∷_}
-use mathlib.Core.Bool.{Bool, false}
+use mathlib.Core.Bool.{Bool, true, false, true≢false, false≢true}
 use Prim.Native.Nat.{ℕ, suc, _+_, _-_, _≤_, _<_}
 use native.Mathlib.Nat.{sub-zero}
 use native.Mathlib.Numerals.{add-one}
 use native.Mathlib.Omega.{arith}
-use borrow.Author.Tests.{eq-eqb, ne-eqb}
+use lib.Dec.{leb}
+use borrow.Author.Tests.{eq-eqb, ne-eqb, le-leb, lt-leb}
 use lib.ListN.{length, take, drop, getD, set, length-set, drop-of-length-le, length-take}
 use lib.Seq.{drop-cons, getD-take, getD-set-same, getD-set-other}
 use Rattle.cells.specs.Numbered.{one-more}
+use Rattle.counting.specs.Below.{sumBelow}
+use Rattle.counting.specs.Sums.{sumOf}
+use Rattle.counting.specs.Laws.{sum-more}
 use Rattle.instrument_fields.specs.declared.KeyDesign.{KeyDesign}
 use Rattle.instrument.specs.declared.Instrument.{Instrument}
 use Rattle.instrument.specs.Valid.{keyAt}
@@ -117,3 +121,42 @@ module _ (i : Instrument) (ds : List StringDesign) (es : List TimedEvent) (t : �
   acted-end s k a h =
       let z : drop k es ≡ [] = drop-of-length-le es h in
       rw z at (a .rest)
+
+-- the counts of the keys below k, added up as far as the limit lets them be
+pub record Added (counts : List ℕ) (limit : ℕ) (within : Bool) (sum k : ℕ) : Type 0 where
+  pub low : sum ≤ limit
+  pub fits : within ≡ true → sum ≡ sumOf k counts
+  pub over : within ≡ false → limit < sumOf k counts
+
+module _ (counts : List ℕ) (limit : ℕ) where
+  pub added-none : Added counts limit true 0 0
+  unfolding sumBelow
+  added-none = record { low = omega arith; fits = λ e. omega arith; over = λ e. absurd (true≢false e) }
+
+  module _ (within : Bool) (sum k : ℕ) (a : Added counts limit within sum k) where
+    next : sumOf (k + 1) counts ≡ sumOf k counts + getD counts k 0
+    next = sum-more (λ j. getD counts j 0) k
+
+    -- key k's count is within what is left of the limit
+    pub added-more : getD counts k 0 ≤ limit - sum → Added counts limit within (sum + getD counts k 0) (k + 1)
+    added-more h = record {
+      low = omega (arith, a .low);
+      fits = λ e. omega (arith, a .fits e, next);
+      over = λ e. omega (arith, a .over e, next);
+    }
+
+    -- or it is not, and then the sum passes the limit
+    pub added-over : limit - sum < getD counts k 0 → Added counts limit false sum (k + 1)
+    added-over h = record { low = a .low; fits = λ e. absurd (false≢true e); over = λ e. by-test within refl }
+      where
+        by-test : (b : Bool) → within ≡ b → limit < sumOf (k + 1) counts
+        by-test true e = omega (arith, a .fits e, a .low, next, h)
+        by-test false e = omega (arith, a .over e, next)
+
+    -- what the sum and the test are where the keys below k have all counts there are
+    pub added-all : (keys : ℕ) → sumOf k counts ≡ sumOf keys counts → (within ≡ leb (sumOf keys counts) limit) × (within ≡ true → sum ≡ sumOf keys counts)
+    added-all keys q = (by-test within refl, λ e. a .fits e ∙ q)
+      where
+        by-test : (b : Bool) → within ≡ b → within ≡ leb (sumOf keys counts) limit
+        by-test true e = e ∙ sym (le-leb (sumOf keys counts) limit (omega (arith, a .low, a .fits e, q)))
+        by-test false e = e ∙ sym (lt-leb (sumOf keys counts) limit (omega (arith, a .over e, q)))

@@ -46,18 +46,40 @@ struckKey k velocity p = record {
   held = set (p .held) k true;
   «hand_damped» = set (p .«hand_damped») k false;
   «damper_r» = p .«damper_r»;
+  «contact_samples» = p .«contact_samples»;
   pedal = p .pedal;
-  motion = record { hammer = Flying k +0 velocity; «contact_samples» = p .motion .«contact_samples»; «peak_force» = p .motion .«peak_force» };
+  motion = record { hammer = Flying k +0 velocity; «peak_force» = p .motion .«peak_force» };
 }
 
 unfoldable pub heldTo : Bool → ℕ → Piano → Piano
-heldTo b k p = record { held = set (p .held) k b; «hand_damped» = p .«hand_damped»; «damper_r» = p .«damper_r»; pedal = p .pedal; motion = p .motion }
+heldTo b k p = record {
+  held = set (p .held) k b;
+  «hand_damped» = p .«hand_damped»;
+  «damper_r» = p .«damper_r»;
+  «contact_samples» = p .«contact_samples»;
+  pedal = p .pedal;
+  motion = p .motion;
+}
 
 unfoldable pub handDamped : ℕ → Piano → Piano
-handDamped k p = record { held = p .held; «hand_damped» = set (p .«hand_damped») k true; «damper_r» = p .«damper_r»; pedal = p .pedal; motion = p .motion }
+handDamped k p = record {
+  held = p .held;
+  «hand_damped» = set (p .«hand_damped») k true;
+  «damper_r» = p .«damper_r»;
+  «contact_samples» = p .«contact_samples»;
+  pedal = p .pedal;
+  motion = p .motion;
+}
 
 unfoldable pub pedalTo : Bool → Piano → Piano
-pedalTo b p = record { held = p .held; «hand_damped» = p .«hand_damped»; «damper_r» = p .«damper_r»; pedal = b; motion = p .motion }
+pedalTo b p = record {
+  held = p .held;
+  «hand_damped» = p .«hand_damped»;
+  «damper_r» = p .«damper_r»;
+  «contact_samples» = p .«contact_samples»;
+  pedal = b;
+  motion = p .motion;
+}
 
 -- f with the index of the key of number x, nothing where there is none
 abbrev pub onKey : Instrument → ℕ → (ℕ → State → State) → State → State

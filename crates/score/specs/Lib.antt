@@ -1,4 +1,5 @@
 pub mod Events
 pub mod Score
+pub mod Contacts
 pub mod Laws
 pub mod Due

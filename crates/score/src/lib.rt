@@ -12,6 +12,7 @@ ghost use Rattle.string.specs.Table.{tableStrings};
 ghost use Rattle.strings.specs.Strings.{cellsOf};
 ghost use Rattle.score.specs.Events.{State, keyIndex, isDown, AllDown, cleared, clearedAll, struckKey, heldTo, handDamped, pedalTo, Playable, applied, applyAll};
 ghost use Rattle.score.specs.Score.{eventsOf, eventsAt, NextFrom};
+ghost use Rattle.score.specs.Contacts.{Totals};
 
 pub enum Event {
     NoteOn { key: u8, velocity: f64 },
@@ -36,8 +37,15 @@ pub struct Piano {
     pub held: [bool; 16],
     pub hand_damped: [bool; 16],
     pub damper_r: [f64; 16],
+    pub contact_samples: [u64; 16],
     pub pedal: bool,
     pub motion: Motion,
+}
+
+// The contact samples of an instrument's keys, added up: whether they are at most a limit, and where they are, their sum.
+pub struct Total {
+    pub within: bool,
+    pub sum: u64,
 }
 
 // The index of the key of that number; the number of keys where there is none.
@@ -95,6 +103,7 @@ fn strike_key(piano: Piano, k: usize, velocity: f64) -> Piano
     let mut held = piano.held;
     let mut hand_damped = piano.hand_damped;
     let damper_r = piano.damper_r;
+    let contact_samples = piano.contact_samples;
     let motion = piano.motion;
     held[k] = true;
     hand_damped[k] = false;
@@ -105,13 +114,13 @@ fn strike_key(piano: Piano, k: usize, velocity: f64) -> Piano
     };
     let after = Motion {
         hammer: hammer,
-        contact_samples: motion.contact_samples,
         peak_force: motion.peak_force,
     };
     Piano {
         held: held,
         hand_damped: hand_damped,
         damper_r: damper_r,
+        contact_samples: contact_samples,
         pedal: piano.pedal,
         motion: after,
     }
@@ -124,12 +133,14 @@ fn release_key(piano: Piano, k: usize) -> Piano
     let mut held = piano.held;
     let hand_damped = piano.hand_damped;
     let damper_r = piano.damper_r;
+    let contact_samples = piano.contact_samples;
     let motion = piano.motion;
     held[k] = false;
     Piano {
         held: held,
         hand_damped: hand_damped,
         damper_r: damper_r,
+        contact_samples: contact_samples,
         pedal: piano.pedal,
         motion: motion,
     }
@@ -142,12 +153,14 @@ fn hand_damp_key(piano: Piano, k: usize) -> Piano
     let held = piano.held;
     let mut hand_damped = piano.hand_damped;
     let damper_r = piano.damper_r;
+    let contact_samples = piano.contact_samples;
     let motion = piano.motion;
     hand_damped[k] = true;
     Piano {
         held: held,
         hand_damped: hand_damped,
         damper_r: damper_r,
+        contact_samples: contact_samples,
         pedal: piano.pedal,
         motion: motion,
     }
@@ -159,11 +172,13 @@ fn move_pedal(piano: Piano, down: bool) -> Piano
     let held = piano.held;
     let hand_damped = piano.hand_damped;
     let damper_r = piano.damper_r;
+    let contact_samples = piano.contact_samples;
     let motion = piano.motion;
     Piano {
         held: held,
         hand_damped: hand_damped,
         damper_r: damper_r,
+        contact_samples: contact_samples,
         pedal: down,
         motion: motion,
     }
@@ -277,4 +292,22 @@ pub fn dampers_down(instrument: Instrument, piano: Piano) -> [bool; 16]
         down[k] = d.has_damper & (hand_damped[k] | !(held[k] | piano.pedal));
     }
     down
+}
+
+// The sum over so many keys, of which the first 16 can have a count, against a limit. No count is added that passes what is left of the limit, so that none can make the sum wrap.
+pub fn contacts(counts: [u64; 16], keys: usize, limit: u64) -> Total
+    ensures { λ r. ⌜ Totals keys counts limit r ⌝ }
+{
+    let n = if keys < 16 { keys } else { 16 };
+    let mut within = true;
+    let mut sum = 0;
+    for k in 0..n {
+        let count = counts[k];
+        if count <= limit - sum {
+            sum += count;
+        } else {
+            within = false;
+        }
+    }
+    Total { within, sum }
 }

@@ -6,7 +6,7 @@ use mathlib.Core.List.{List, _++_, map, append-nil}
 use Prim.Native.Nat.{ℕ, _+_, _-_, _*_, _<_, _≤_}
 use native.Mathlib.Omega.{arith}
 use lib.Dec.{eqb}
-use borrow.Author.Tests.{lt-ltb, le-ltb, ltb-true, ltb-false}
+use borrow.Author.Tests.{lt-ltb, le-ltb, le-leb, ltb-true, ltb-false}
 use lib.Ieee.{Float}
 use lib.ListN.{length, take, drop, getD, set, replicate, drop-of-length-le}
 use lib.Seq.{take-at, drop-at, length-take-le, getD-take, sets, sets-eq}
@@ -22,8 +22,10 @@ use Rattle.score.specs.declared.TimedEvent.{TimedEvent}
 use Rattle.render.specs.declared.Run.{Run}
 use Rattle.score.specs.Events.{State}
 use Rattle.score.specs.Score.{noEvent}
-use Rattle.render.specs.Render.{Renderable, Rendered, renderingOf, unstarted, silence, run, samples, forces}
-use Rattle.render.specs.Laws.{samples-length, forces-few}
+use Rattle.score.specs.declared.Total.{Total}
+use Rattle.score.specs.Contacts.{Totals, contactsOf}
+use Rattle.render.specs.Render.{PianoAt, Renderable, Rendered, renderingOf, unstarted, silence, run, samples, forces}
+use Rattle.render.specs.Laws.{samples-length, forces-few, run-contact}
 use Rattle.render.specs.Work.{valid-renderable}
 use Rattle.positions.specs.Positions.{end, count, isIn, above}
 use Rattle.positions.specs.Laws.{count-others, true-or-false}
@@ -72,10 +74,10 @@ silenced i work ok room w ew cells e =
 -- what records that pass 7 and 8 let the renderer have: a state that can be held for t, samples that end in time, W cells and scratch
 pub ready : (i : Instrument) (s : Session) (cells : ℕ) → Passed i s cells → (t m : ℕ) (part spare : List Float) (piano : Piano) → soundPiano (i .«key_count») t piano ≡ true
     → t + m ≤ end → length part ≡ partCells i → scratchCells i ≤ length spare
-    → Renderable i part spare × (s .count ≤ 64) × (piano .motion .«contact_samples» ≤ t) × (t + m < 18446744073709551616)
+    → Renderable i part spare × (s .count ≤ 64) × PianoAt (i .«key_count») piano t × (t + m < 18446744073709551616)
 unfolding scratchCells
 ready i s cells p t m part spare piano ok top size enough =
-    (valid-renderable i (p .sound) part spare (omega arith) (omega arith), p .few, sound-for-render i t piano ok .0, omega arith)
+    (valid-renderable i (p .sound) part spare (omega arith) (omega arith), p .few, sound-for-render (i .«key_count») t piano ok, omega arith)
 
 -- what was stored: all of a buffer, or its front
 stored-front : (l vs l′ : List Float) → l′ ≡ sets l 0 vs → length vs ≤ length l → l′ ≡ vs ++ drop (length vs) l
@@ -88,23 +90,29 @@ stored-all l vs l′ e h =
 -- ---- play
 
 module _ (i : Instrument) (s : Session) (work spare out trace : List Float) (p : PlayPassed i s (length work) (length spare) (length out) (length trace)) (w : ℕ) (ew : w ≡ partCells i) where
-  pub play-ready : Renderable i (take w work) spare × (s .count ≤ 64) × (s .piano .motion .«contact_samples» ≤ s .t) × (s .t + length out < 18446744073709551616)
+  pub play-ready : Renderable i (take w work) spare × (s .count ≤ 64) × PianoAt (i .«key_count») (s .piano) (s .t) × (s .t + length out < 18446744073709551616)
   play-ready =
       let size = length-take-le w work (omega (arith, p .records .room)) ∙ ew in
       ready i s (length work) (p .records) (s .t) (length out) (take w work) spare (s .piano) (p .records .now) (p .stops) size (p .spare)
 
-  -- what the renderer gave for all of the output is the call's promise
-  pub plays : (r : Run) (part′ out′ trace′ : List Float)
+  -- what the renderer gave for all of the output, with its counts' sum, which is not above the new position, is the call's promise
+  pub plays : (r : Run) (part′ out′ trace′ : List Float) (total : Total)
       → Rendered i (scoreOf s) (s .t) (length out) (unstarted (s .piano) (take w work) out trace) (renderingOf r part′ out′ trace′)
+      → Totals (i .«key_count») (r .piano .«contact_samples») (s .t + length out) total
       → Plays i s work out trace
-      (record { answer = Played (r .pushed); session = record { t = s .t + length out; count = s .count; events = s .events; cues = s .cues; piano = r .piano } })
+      (record { answer = Played (r .pushed) (total .sum); session = record { t = s .t + length out; count = s .count; events = s .events; cues = s .cues; piano = r .piano } })
       (part′ ++ drop w work) out′ trace′
-  plays r part′ out′ trace′ b =
+  unfolding contactsOf
+  plays r part′ out′ trace′ total b c =
       let st : State = record { piano = s .piano; cells = take w work } in
       let vs = samples i (scoreOf s) (s .t) (length out) st in
       let fs = forces i (scoreOf s) (s .t) (length out) st in
+      let after : r .piano ≡ run i (scoreOf s) (s .t) (length out) st .piano = ap (λ x. x .piano) (b .state) in
+      let low = rw (← after) at (run-contact i (scoreOf s) (i .«key_count») (s .t) (length out) st) in
+      let start = play-ready .2 .contact in
+      let sum = c .sum (c .within ∙ le-leb (contactsOf (i .«key_count») (r .piano)) (s .t + length out) (omega (arith, low, start))) in
       record {
-        answer = rw (← ew) (ap Played (b .forced));
+        answer = rw (← ew) (ap (λ k. Played k (total .sum)) (b .forced) ∙ ap (λ n. Played (length fs) n) (sum ∙ ap (contactsOf (i .«key_count»)) after));
         session = rw (← ew) (ap (λ x. record { t = s .t + length out; count = s .count; events = s .events; cues = s .cues; piano = x .piano }) (b .state));
         memory = rw (← ew) (ap (λ x. x .cells ++ drop w work) (b .state));
         sound = rw (← ew) (stored-all out vs out′ (b .outs) (samples-length i (scoreOf s) (s .t) (length out) st));
@@ -171,7 +179,7 @@ module _ (i : Instrument) (s : Session) (work spare : List Float) (q : ℕ) (p :
   behind : drop w work₁ ≡ drop (partCells i) work
   behind = rw (ew, rs .memory) (drop-at (held .cells) (drop (partCells i) work) (partCells i) held-cells)
 
-  pub go-ready : Renderable i (take w work₁) spare × (s .count ≤ 64) × (piano .motion .«contact_samples» ≤ start) × (start + (q - start) < 18446744073709551616)
+  pub go-ready : Renderable i (take w work₁) spare × (s .count ≤ 64) × PianoAt (i .«key_count») piano start × (start + (q - start) < 18446744073709551616)
   go-ready =
       let sound : soundPiano (i .«key_count») start piano ≡ true = rw (rs .piano) (held-sound i s work start four (p .records)) in
       let size = length-take-le w work₁ (omega (arith, p .records .room)) ∙ ew in

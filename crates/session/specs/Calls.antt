@@ -16,6 +16,7 @@ use Rattle.score.specs.declared.TimedEvent.{TimedEvent}
 use Rattle.score.specs.declared.Piano.{Piano}
 use Rattle.score.specs.Events.{State}
 use Rattle.score.specs.Score.{noEvent}
+use Rattle.score.specs.Contacts.{contactsOf}
 use Rattle.render.specs.Render.{silentPiano, silence, run, samples, forces}
 use Rattle.positions.specs.Positions.{isIn, above}
 use Rattle.score_edits.specs.Edits.{placed, removed}
@@ -71,7 +72,9 @@ OpenMeets i work r work′ =
 -- ---- play
 
 pub record Plays (i : Instrument) (s : Session) (work out trace : List Float) (r : Outcome) (work′ out′ trace′ : List Float) : Type 0 where
-  pub answer : r .answer ≡ Played (length (forces i (scoreOf s) (s .t) (length out) (stateNow i s work)))
+  pub answer : r .answer
+      ≡ Played (length (forces i (scoreOf s) (s .t) (length out) (stateNow i s work)))
+      (contactsOf (i .«key_count») (run i (scoreOf s) (s .t) (length out) (stateNow i s work) .piano))
   pub session : r .session
       ≡ record {
         t = s .t + length out;

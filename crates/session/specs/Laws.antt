@@ -6,7 +6,7 @@ use Prim.Native.Nat.{ℕ, zero, suc, _+_, _*_, _<_, _≤_}
 use native.Mathlib.Omega.{arith}
 use native.Mathlib.Nat.{add-mul, one-mul, mul-le-mul-right}
 use lib.Dec.{eqb}
-use borrow.Author.Tests.{eqb-true, le-leb, lt-ltb, ltb-true}
+use borrow.Author.Tests.{eqb-true, le-leb, ltb-true}
 use lib.Ieee.{Float}
 use lib.ListN.{length, getD, replicate}
 use lib.Seq.{length-take-le}
@@ -15,18 +15,17 @@ use Rattle.cells.specs.Splice.{part-length}
 use Rattle.instrument.specs.declared.Instrument.{Instrument}
 use Rattle.instrument.specs.Valid.{valid}
 use Rattle.instrument.specs.Work.{partCells}
-use Rattle.points.specs.declared.HammerState.{HammerState}
-use Rattle.points.specs.declared.HammerState.the-variants.{Resting, Flying}
 use Rattle.score.specs.declared.TimedEvent.{TimedEvent}
 use Rattle.score.specs.declared.Piano.{Piano}
 use Rattle.score.specs.Events.{State}
-use Rattle.render.specs.Render.{silentPiano, silence, renderState}
-use Rattle.render.specs.Laws.{render-contact, render-length}
-use Rattle.render.specs.Hammers.{OnKey, render-hammer}
+use Rattle.score.specs.Contacts.{contactsOf}
+use Rattle.render.specs.Render.{PianoAt, silentPiano, silence, renderState}
+use Rattle.render.specs.Laws.{silent-at, render-contact, render-length}
+use Rattle.render.specs.Hammers.{render-hammer}
 use Rattle.render.specs.Steps.{stateAfter}
 use Rattle.render.specs.Work.{cells-are}
 use Rattle.positions.specs.Positions.{isIn}
-use Rattle.session_cues.specs.Cues.{contactsOf, hammerOn, slotAt, soundPiano}
+use Rattle.session_cues.specs.Cues.{slotAt, soundPiano}
 use Rattle.session_cues.specs.Laws.{slot-in, slot-kept, cue-sound, piano-parts}
 use Rattle.session_record.specs.declared.Session.{Session}
 use Rattle.session_record.specs.Laws.{Passed}
@@ -55,26 +54,18 @@ get-any (x ∷ xs) (suc j) d e h = get-any xs j d e (omega arith)
 
 -- ---- what the renderer may be given, and what it gives, in its own words
 
-module _ (i : Instrument) (x : ℕ) (p : Piano) where
-  pub sound-from-render : p .motion .«contact_samples» ≤ x → OnKey i (p .motion .hammer) → soundPiano (i .«key_count») x p ≡ true
-  unfolding soundPiano contactsOf hammerOn
-  sound-from-render h k = rw (le-leb (p .motion .«contact_samples») x h) (on-key (p .motion .hammer) k)
-    where
-      on-key : (hammer : HammerState) → OnKey i hammer → hammerOn (i .«key_count») hammer ≡ true
-      on-key Resting k = refl
-      on-key (Flying n y v) k = lt-ltb n (i .«key_count») k
+module _ (keys x : ℕ) (p : Piano) where
+  pub sound-from-render : PianoAt keys p x → soundPiano keys x p ≡ true
+  unfolding soundPiano
+  sound-from-render a = rw (le-leb (contactsOf keys p) x (a .contact)) (a .hammer)
 
-  pub sound-for-render : soundPiano (i .«key_count») x p ≡ true → (p .motion .«contact_samples» ≤ x) × OnKey i (p .motion .hammer)
-  unfolding contactsOf hammerOn
-  sound-for-render e = let a = piano-parts (i .«key_count») x p e in (a .0, on-key (p .motion .hammer) (a .1))
-    where
-      on-key : (hammer : HammerState) → hammerOn (i .«key_count») hammer ≡ true → OnKey i hammer
-      on-key Resting k = tt
-      on-key (Flying n y v) k = ltb-true n (i .«key_count») k
+  pub sound-for-render : soundPiano keys x p ≡ true → PianoAt keys p x
+  sound-for-render e = let a = piano-parts keys x p e in record { contact = a .0; hammer = a .1 }
 
 -- a state of the render can be held for its position
 pub rendered-sound : (i : Instrument) (score : List TimedEvent) (x : ℕ) (st : State) → st ≡ renderState i score x → soundPiano (i .«key_count») x (st .piano) ≡ true
-rendered-sound i score x st e = rw e (sound-from-render i x (renderState i score x .piano) (render-contact i score x) (render-hammer i score x))
+rendered-sound i score x st e =
+    rw e (sound-from-render (i .«key_count») x (renderState i score x .piano) (record { contact = render-contact i score x; hammer = render-hammer i score x }))
 
 -- a state of the render has W cells
 pub rendered-length : (i : Instrument) → valid i ≡ true → (score : List TimedEvent) (p : ℕ) → length (renderState i score p .cells) ≡ partCells i
@@ -98,9 +89,7 @@ unfolding silence
 silent-piano i = refl
 
 silent-sound : (i : Instrument) (x : ℕ) → soundPiano (i .«key_count») x (silence i .piano) ≡ true
-silent-sound i x =
-    let a = sound-for-render i 0 (silence i .piano) (rendered-sound i [] 0 (silence i) (sym (render-zero i []))) in
-    sound-from-render i x (silence i .piano) (omega (arith, a .0)) (a .1)
+silent-sound i x = rw (← silent-piano i) (sound-from-render (i .«key_count») x silentPiano (silent-at (i .«key_count») x))
 
 -- ---- the state held for a position
 

@@ -17,11 +17,11 @@ use score::TimedEvent;
 use session_cues::Cue;
 use session_record::Session;
 
-// "accepted, or the refusal's number; play's k; go's number; an edit's t and number dropped"
+// "accepted, or the refusal's number; play's k; go's number; an edit's t and number dropped"; beside k the contact samples of all keys at the new position
 pub enum Answer {
     Refused(u64),
     Opened,
-    Played(usize),
+    Played { k: usize, contacts: u64 },
     Cued,
     Went(u64),
     Edited { t: u64, dropped: u64 },
@@ -127,8 +127,13 @@ pub fn play(
         m,
     );
     let after = played.piano;
+    let counts = after.contact_samples;
+    let total = score::contacts(counts, instrument.key_count, next);
     Outcome {
-        answer: Answer::Played(played.pushed),
+        answer: Answer::Played {
+            k: played.pushed,
+            contacts: total.sum,
+        },
         session: Session {
             t: next,
             count: count,

@@ -1,12 +1,11 @@
 -- Document 01, "The session": the kept cues, as four slots in order. Refusal 7: "a session with .. a cue above the end of 11, .. over four cues or two equal, a hammer on a key not
--- there, a contact count above its position". Over four cannot be written down here. Definitions only: assumes nothing.
+-- there, a contact count above its position", which is now a sum over keys. Over four cannot be written down here. Definitions only: assumes nothing.
 use mathlib.Core.Bool.{Bool, true, cond, not, _&&_, _||_}
 use mathlib.Core.List.{List, [], _∷_}
 use Prim.Native.Nat.{ℕ, suc}
 use lib.Dec.{eqb, leb, ltb}
-use Rattle.points.specs.declared.HammerState.{HammerState}
-use Rattle.points.specs.declared.HammerState.the-variants.{Resting, Flying}
 use Rattle.score.specs.declared.Piano.{Piano}
+use Rattle.score.specs.Contacts.{contactsOf, hammerOn}
 use Rattle.positions.specs.Positions.{end, isIn}
 use Rattle.session_cues.specs.declared.Cue.{Cue}
 
@@ -33,18 +32,10 @@ dropAbove q c = record { kept = c .kept && leb (c .position) q; position = c .po
 
 -- ---- refusal 7
 
--- the count that titles follow
-unfoldable pub contactsOf : Piano → ℕ
-contactsOf p = p .motion .«contact_samples»
-
--- whether the hammer, if one flies, is on one of so many keys
-unfoldable pub hammerOn : ℕ → HammerState → Bool
-hammerOn keys Resting = true
-hammerOn keys (Flying k y v) = ltb k keys
-
--- what may be held for a position x, of an instrument with so many keys; its floats may be anything
+-- What may be held for a position x, of an instrument with so many keys; its floats may be anything. Document 02, W2: "refusal 7 tests each sum, the piano's and every cue's, against its
+-- own position".
 unfoldable pub soundPiano : ℕ → ℕ → Piano → Bool
-soundPiano keys x p = leb (contactsOf p) x && hammerOn keys (p .motion .hammer)
+soundPiano keys x p = leb (contactsOf keys p) x && hammerOn keys (p .motion .hammer)
 
 unfoldable pub soundCue : ℕ → Cue → Bool
 soundCue keys c = not (c .kept) || (leb (c .position) end && soundPiano keys (c .position) (c .piano))

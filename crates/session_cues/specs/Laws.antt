@@ -8,10 +8,11 @@ use lib.Dec.{eqb, leb, ltb, leb·suc-suc}
 use borrow.Author.Tests.{lt-ltb, le-leb, eqb-true, leb-true, not-true}
 use lib.ListN.{length, getD, set}
 use Rattle.score.specs.declared.Piano.{Piano}
+use Rattle.score.specs.Contacts.{contactsOf, hammerOn}
 use Rattle.positions.specs.Positions.{end, count, isIn, upTo, distinct, Same}
 use Rattle.positions.specs.Laws.{and-true, and-both, true-or-false, count-swap, in-front, in-cons, in-none}
 use Rattle.session_cues.specs.declared.Cue.{Cue}
-use Rattle.session_cues.specs.Cues.{contactsOf, hammerOn, keptOf, standsAt, slotAt, freeSlot, dropAbove, soundPiano, soundCue, soundCues}
+use Rattle.session_cues.specs.Cues.{keptOf, standsAt, slotAt, freeSlot, dropAbove, soundPiano, soundCue, soundCues}
 
 -- ---- what the slots keep
 
@@ -124,11 +125,11 @@ kept-drop q (c ∷ cs) = low (c .kept) (leb (c .position) q) (c .position) _ _ (
 
 -- ---- refusal 7
 
-pub piano-parts : (keys x : ℕ) (p : Piano) → soundPiano keys x p ≡ true → (contactsOf p ≤ x) × (hammerOn keys (p .motion .hammer) ≡ true)
+pub piano-parts : (keys x : ℕ) (p : Piano) → soundPiano keys x p ≡ true → (contactsOf keys p ≤ x) × (hammerOn keys (p .motion .hammer) ≡ true)
 unfolding soundPiano
 piano-parts keys x p e =
-    let a = and-true (leb (contactsOf p) x) (hammerOn keys (p .motion .hammer)) e in
-    (leb-true (contactsOf p) x (a .0), a .1)
+    let a = and-true (leb (contactsOf keys p) x) (hammerOn keys (p .motion .hammer)) e in
+    (leb-true (contactsOf keys p) x (a .0), a .1)
 
 cue-held : (b c : Bool) → (not b || c) ≡ true → b ≡ true → c ≡ true
 cue-held true c e k = e

@@ -4,8 +4,9 @@ ghost use mathlib.Core.Path.{_≡_};
 ghost use mathlib.Core.List.{map};
 ghost use Prim.Native.Nat.{_+_, _≤_};
 ghost use lib.ListN.{length, drop};
+ghost use Rattle.score.specs.Contacts.{hammerOn};
 ghost use Rattle.positions.specs.Positions.{upTo, greatest, above};
-ghost use Rattle.session_cues.specs.Cues.{contactsOf, hammerOn, keptOf, standsAt, slotAt, freeSlot, dropAbove, nearer, lostOf, soundPiano, soundCue, soundCues};
+ghost use Rattle.session_cues.specs.Cues.{keptOf, standsAt, slotAt, freeSlot, dropAbove, nearer, lostOf, soundPiano, soundCue, soundCues};
 use points::HammerState;
 use score::Piano;
 use score_edits::END;
@@ -81,11 +82,11 @@ pub fn nearest(cues: [Cue; 4], p: u64) -> u64
 fn dropped_above(cue: Cue, q: u64) -> Cue
     ensures { λ r. ⌜ r ≡ dropAbove q cue ⌝ }
 {
-    let piano = cue.piano;
+    let small = cue.piano;
     Cue {
         kept: cue.kept & (cue.position <= q),
         position: cue.position,
-        piano: piano,
+        piano: small,
     }
 }
 
@@ -124,14 +125,6 @@ pub fn count_above(cues: [Cue; 4], q: u64) -> u64
     n
 }
 
-// The count that titles follow.
-fn contacts(piano: Piano) -> u64
-    ensures { λ r. ⌜ r ≡ contactsOf piano ⌝ }
-{
-    let motion = piano.motion;
-    motion.contact_samples
-}
-
 // Whether the hammer, if there is one, is on one of `keys` keys.
 fn is_hammer_on(keys: usize, hammer: HammerState) -> bool
     ensures { λ r. ⌜ r ≡ hammerOn keys hammer ⌝ }
@@ -146,14 +139,16 @@ fn is_hammer_on(keys: usize, hammer: HammerState) -> bool
     }
 }
 
-// Whether a piano can be held for a position: its hammer is on a key that is there, its count not above the position.
+// Whether a piano can be held for a position: its hammer is on a key that is there, the sum of its counts not above the position.
 pub fn is_sound_piano(keys: usize, position: u64, piano: Piano) -> bool
     ensures { λ r. ⌜ r ≡ soundPiano keys position piano ⌝ }
 {
     let motion = piano.motion;
     let hammer = motion.hammer;
     let there = is_hammer_on(keys, hammer);
-    (contacts(piano) <= position) & there
+    let counts = piano.contact_samples;
+    let total = score::contacts(counts, keys, position);
+    total.within & there
 }
 
 fn is_sound_cue(keys: usize, cue: Cue) -> bool

@@ -9,8 +9,11 @@ use lib.Ieee.{Float}
 use lib.ListN.{length, take, getD}
 use Rattle.instrument.specs.declared.Instrument.{Instrument}
 use Rattle.instrument.specs.Work.{partCells}
+use Rattle.instrument.specs.ValidLaws.{valid-counts}
 use Rattle.score.specs.declared.Piano.{Piano}
+use Rattle.score.specs.Contacts.{contactsOf}
 use Rattle.render.specs.Render.{silentPiano, silence}
+use Rattle.render.specs.Laws.{render-sum}
 use Rattle.positions.specs.Positions.{count}
 use Rattle.positions.specs.Laws.{true-or-false}
 use Rattle.machine.specs.Machine.{Machine, Call, Reply, opened, does, final, replies}
@@ -22,9 +25,9 @@ use Rattle.session_record.specs.Record.{openRefusal}
 use Rattle.session_record.specs.Laws.{open-passed}
 use Rattle.session.specs.declared.Answer.the-variants.{Opened}
 use Rattle.session.specs.declared.Outcome.{Outcome}
-use Rattle.session.specs.Calls.{emptyCue, freshSession, OpenMeets}
+use Rattle.session.specs.Calls.{emptyCue, cueAt, freshSession, OpenMeets}
 use Rattle.session.specs.Laws.{render-zero, silent-length, silent-piano}
-use Rattle.session_theorem.specs.Runs.{Runs, standing, Claim}
+use Rattle.session_theorem.specs.Runs.{Runs, Counts, standing, Claim}
 use Rattle.session_theorem.specs.Memory.{front-now, front-length}
 use Rattle.session_theorem.specs.Stands.{Stands}
 use Rattle.session_theorem.specs.Steps.{call-step}
@@ -84,10 +87,22 @@ opened-stands i work work′ r h e =
       room = omega (arith, front-length (partCells i) (silence i .cells) work work′ (a .1) (silent-length i (fine .0)) (fine .1), fine .1);
     }
 
+-- ---- the counts
+
+-- a session that follows the machine has, over its keys, the machine's count
+stands-counts : (i : Instrument) (s : Session) (work : List Float) (p : Machine) → Stands i s work p → Counts i s p
+stands-counts i s work p g =
+    let f = g .follows in
+    let few = valid-counts i (g .instrument) .fewKeys in
+    record {
+      now = ap (λ st. contactsOf (i .«key_count») (st .piano)) (f .now) ∙ render-sum i (p .score) few (p .t);
+      held = λ j l k. ap (λ st. contactsOf (i .«key_count») (st .piano)) (f .held j l k) ∙ render-sum i (p .score) few (cueAt s j .position);
+    }
+
 -- ---- the theorem
 
 -- For every instrument and work memory with which open is accepted, and for every list of calls run from there, each by its function's contract: the replies are the plain
--- machine's, the program's session and memory are the plain machine's, every refusal is from 9 to 16, each accepted go replays no more than it must, and the events that act on a
+-- machine's, the program's session and memory are the plain machine's, the keys' contact counts add up to the Rust's one count, every refusal is from 9 to 16, each accepted go replays no more than it must, and the events that act on a
 -- sample are those of document 01's rule, in the order of document 02's W1.
 pub demand-3 : (i : Instrument) (work work′ : List Float) (r : Outcome) → OpenMeets i work r work′ → r .answer ≡ Opened
     → {cs : List Call} {rs : List Reply} {s : Session} {work″ : List Float} → Runs i (r .session) work′ cs rs s work″ → Claim i cs rs s work″
@@ -98,6 +113,7 @@ demand-3 i work work′ r h e {cs} {rs} t =
     record {
       answers = u .0;
       after = u .1 .follows;
+      counts = stands-counts i _ _ _ (u .1);
       allowed = λ k l. rw (reply k (omega (arith, l, ap length (u .0), replies-length i opened cs))) (allowed-does i (standing i cs k) (getD cs k Call.cue));
       replayed = λ k scratch p n l c f. go-replays i (standing i cs k) scratch p n (ap (λ x. does i (standing i cs k) x .1) (sym c) ∙ sym (reply k l) ∙ f);
       walked = λ k t. sound-walk (standing i cs k .score) t (sound-final i opened (take k cs) sound-opened .score);

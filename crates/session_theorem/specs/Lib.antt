@@ -5,5 +5,6 @@ pub mod Stands
 pub mod Steps
 pub mod Demand
 pub mod Parts
+pub mod PastKeys
 pub mod Past
 pub mod Beyond

@@ -13,7 +13,7 @@ use lib.Ieee.{Float}
 use lib.ListN.{length, length-append}
 use Rattle.instrument.specs.declared.Instrument.{Instrument}
 use Rattle.score.specs.declared.TimedEvent.{TimedEvent}
-use Rattle.render.specs.Render.{renderState}
+use Rattle.render.specs.Render.{renderState, renderContacts}
 use Rattle.render.specs.Laws.{samples-then, forces-then, render-then}
 use Rattle.positions.specs.Positions.{end, isIn}
 use Rattle.positions.specs.Laws.{in-front, in-cons, in-cases, greatest-upTo}
@@ -136,16 +136,18 @@ play-parts-refused i t scratch m trace =
     }
 
 -- the play of a samples, the play of b from where it leaves the machine, and the one play of a + b, with traces of n, k and `trace` cells
-pub record PlayParts (i : Instrument) (m : Machine) (scratch a b n k trace : ℕ) (S S′ F F′ : List Float) : Type 0 where
-  pub first : does i m (Call.play scratch a n) ≡ (movedTo m (m .t + a), Reply.played (length F) S F)
-  pub next : does i (movedTo m (m .t + a)) (Call.play scratch b k) ≡ (movedTo m (m .t + (a + b)), Reply.played (length F′) S′ F′)
-  pub whole : does i m (Call.play scratch (a + b) trace) ≡ (movedTo m (m .t + (a + b)), Reply.played (length F + length F′) (S ++ S′) (F ++ F′))
+pub record PlayParts (i : Instrument) (m : Machine) (scratch a b n k trace C C′ : ℕ) (S S′ F F′ : List Float) : Type 0 where
+  pub first : does i m (Call.play scratch a n) ≡ (movedTo m (m .t + a), Reply.played (length F) C S F)
+  pub next : does i (movedTo m (m .t + a)) (Call.play scratch b k) ≡ (movedTo m (m .t + (a + b)), Reply.played (length F′) C′ S′ F′)
+  pub whole : does i m (Call.play scratch (a + b) trace) ≡ (movedTo m (m .t + (a + b)), Reply.played (length F + length F′) C′ (S ++ S′) (F ++ F′))
   -- what lets the rest be cut again
   pub rest : playRefusal i (m .t + a) scratch b k ≡ 0
 
--- a play of a + b samples that is not refused: the parts leave what the whole leaves, their numbers add up to its number, and their samples and forces one after the other are its own
+-- a play of a + b samples that is not refused: the parts leave what the whole leaves, their numbers add up to its number, the last one's contacts are its own, and so are their samples and
+-- forces one after the other
 pub play-parts : (i : Instrument) (m : Machine) (scratch a b n k trace : ℕ) → a ≤ n → b ≤ k → playRefusal i (m .t) scratch (a + b) trace ≡ 0
-    → PlayParts i m scratch a b n k trace (blockSamples i (m .score) (m .t) a) (blockSamples i (m .score) (m .t + a) b)
+    → PlayParts i m scratch a b n k trace (renderContacts i (m .score) (m .t + a)) (renderContacts i (m .score) (m .t + (a + b)))
+    (blockSamples i (m .score) (m .t) a) (blockSamples i (m .score) (m .t + a) b)
     (blockForces i (m .score) (m .t) a) (blockForces i (m .score) (m .t + a) b)
 unfolding does
 play-parts i m scratch a b n k trace ha hb e =

@@ -1,7 +1,8 @@
--- "None of them can alter an answer": what document 01 leaves free decides nothing, nor what lies past the counts of a session, "a handed-in record, whose fields are open". Two sessions
--- with work memories that agree up to their counts get the same replies from every list of calls, and agree again afterwards. Assumes nothing.
+-- "None of them can alter an answer": what document 01 leaves free decides nothing, nor what lies past the counts of a session, "a handed-in record, whose fields are open", nor the contact
+-- counts of places past the instrument's keys. Two sessions with work memories that agree but for these get the same replies from every list of calls, and agree again afterwards.
+-- Assumes nothing.
 use mathlib.Core.Path.{_≡_, refl, sym, _∙_, ap}
-use mathlib.Core.Bool.{Bool, true, false, cond, _&&_}
+use mathlib.Core.Bool.{Bool, true, false, cond, not, _&&_}
 use mathlib.Core.List.{List, [], _∷_, _++_, map}
 use Prim.Native.Nat.{ℕ, zero, suc, _+_, _-_, _*_, _<_, _≤_}
 use native.Mathlib.Omega.{arith}
@@ -17,9 +18,10 @@ use Rattle.instrument.specs.Work.{partCells}
 use Rattle.score.specs.declared.TimedEvent.{TimedEvent}
 use Rattle.score.specs.Events.{State}
 use Rattle.score.specs.Score.{noEvent}
+use Rattle.score.specs.Contacts.{contactsOf}
 use Rattle.render.specs.Render.{silence, run, forces}
 use Rattle.positions.specs.Positions.{isIn}
-use Rattle.positions.specs.Laws.{and-true, true-or-false}
+use Rattle.positions.specs.Laws.{and-true}
 use Rattle.score_edits.specs.Edits.{placed, removed}
 use Rattle.machine.specs.Machine.{Call, Reply, startOf, settled}
 use Rattle.session_cues.specs.declared.Cue.{Cue}
@@ -36,13 +38,14 @@ use Rattle.energies.specs.Energy.{noEnergiesFor, EnergiesMeet}
 use Rattle.energies.specs.Laws.{first-part-decides}
 use Rattle.session_theorem.specs.Runs.{replyOf, CallMeets, Runs}
 use Rattle.session_theorem.specs.Memory.{front-now, front-cue, front-length, slot-now, slot-new, slot-other, slot-length, run-cells}
+use Rattle.session_theorem.specs.PastKeys.{ofKeys, cueOfKeys, SameState, same-contacts, same-sound-piano, same-sound-cue, same-run, same-samples, same-forces}
 use Rattle.session_theorem.specs.Arrays.{placed-score, placed-long, removed-score, removed-long, free-slot-there}
 
--- slot by slot: the same cue is kept in both, or none in either
-pub data SameCues : List Cue → List Cue → Type 0 where
-  no-more : SameCues [] []
-  kept : {c : Cue} {a b : List Cue} → SameCues a b → SameCues (c ∷ a) (c ∷ b)
-  free : {c d : Cue} {a b : List Cue} → c .kept ≡ false → d .kept ≡ false → SameCues a b → SameCues (c ∷ a) (d ∷ b)
+-- slot by slot: the same cue is kept in both, but for contact counts of places past so many keys, or none in either
+pub data SameCues (keys : ℕ) : List Cue → List Cue → Type 0 where
+  no-more : SameCues keys [] []
+  kept : {c d : Cue} {a b : List Cue} → cueOfKeys keys c ≡ cueOfKeys keys d → SameCues keys a b → SameCues keys (c ∷ a) (d ∷ b)
+  free : {c d : Cue} {a b : List Cue} → c .kept ≡ false → d .kept ≡ false → SameCues keys a b → SameCues keys (c ∷ a) (d ∷ b)
 
 -- two work memories, as long as each other, with the same first part and the same part for each kept cue; parts of slots that keep none, and cells beyond the five parts, may differ
 pub record SameMemory (w : ℕ) (cues : List Cue) (work work′ : List Float) : Type 0 where
@@ -50,13 +53,13 @@ pub record SameMemory (w : ℕ) (cues : List Cue) (work work′ : List Float) : 
   pub now : take w work ≡ take w work′
   pub held : (j : ℕ) (d : Cue) → j < length cues → getD cues j d .kept ≡ true → part ((j + 1) * w) w work ≡ part ((j + 1) * w) w work′
 
--- two sessions, each with its work memory, that agree up to their counts; events past the count and slots that keep no cue may differ
+-- two sessions, each with its work memory, that agree up to their counts; events past the count, slots that keep no cue, and contact counts of places past the instrument's keys may differ
 pub record Alike (i : Instrument) (s : Session) (work : List Float) (s′ : Session) (work′ : List Float) : Type 0 where
   pub position : s .t ≡ s′ .t
   pub number : s .count ≡ s′ .count
   pub score : scoreOf s ≡ scoreOf s′
-  pub cues : SameCues (s .cues) (s′ .cues)
-  pub piano : s .piano ≡ s′ .piano
+  pub cues : SameCues (i .«key_count») (s .cues) (s′ .cues)
+  pub piano : ofKeys (i .«key_count») (s .piano) ≡ ofKeys (i .«key_count») (s′ .piano)
   pub memory : SameMemory (partCells i) (s .cues) work work′
   -- both have 64 places for events and four slots, as every session
   pub long : length (s .events) ≡ 64
@@ -65,97 +68,106 @@ pub record Alike (i : Instrument) (s : Session) (work : List Float) (s′ : Sess
 
 -- ---- what is asked of the slots
 
-same-kept : {a b : List Cue} → SameCues a b → keptOf a ≡ keptOf b
-unfolding keptOf
-same-kept SameCues.no-more = refl
-same-kept (SameCues.kept {c = c} h) = ap (λ l. cond (c .kept) (c .position ∷ l) l) (same-kept h)
-same-kept (SameCues.free e f h) = rw (e, f) (same-kept h)
+module _ (keys : ℕ) where
+  same-kept : {a b : List Cue} → SameCues keys a b → keptOf a ≡ keptOf b
+  unfolding keptOf
+  same-kept SameCues.no-more = refl
+  same-kept (SameCues.kept {c = c} {d = d} {a = a} e h) =
+      ap (λ (x : Cue). cond (x .kept) (x .position ∷ keptOf a) (keptOf a)) e ∙ ap (λ l. cond (d .kept) (d .position ∷ l) l) (same-kept h)
+  same-kept (SameCues.free e f h) = rw (e, f) (same-kept h)
 
-same-sound : (keys : ℕ) {a b : List Cue} → SameCues a b → soundCues keys a ≡ soundCues keys b
-unfolding soundCues soundCue
-same-sound keys SameCues.no-more = refl
-same-sound keys (SameCues.kept h) = rw (same-kept h, same-sound keys h)
-same-sound keys (SameCues.free e f h) = rw (e, f) (same-sound keys h)
+  same-sound : {a b : List Cue} → SameCues keys a b → soundCues keys a ≡ soundCues keys b
+  unfolding soundCues soundCue
+  same-sound SameCues.no-more = refl
+  same-sound (SameCues.kept {c = c} {d = d} {a = a} e h) =
+      ap (λ (x : Cue). soundCue keys c && not (x .kept && isIn (x .position) (keptOf a)) && soundCues keys a) e
+      ∙ ap (λ (t : Bool). t && not (d .kept && isIn (d .position) (keptOf a)) && soundCues keys a) (same-sound-cue keys c d e)
+      ∙ rw (same-kept h, same-sound h) refl
+  same-sound (SameCues.free e f h) = rw (e, f) (same-sound h)
 
-same-slot : (x : ℕ) {a b : List Cue} → SameCues a b → slotAt x a ≡ slotAt x b
-unfolding slotAt
-same-slot x SameCues.no-more = refl
-same-slot x (SameCues.kept {c = c} h) = ap (λ n. cond (standsAt x c) 0 (suc n)) (same-slot x h)
-same-slot x (SameCues.free e f h) = rw (e, f) (ap suc (same-slot x h))
+  same-slot : (x : ℕ) {a b : List Cue} → SameCues keys a b → slotAt x a ≡ slotAt x b
+  unfolding slotAt
+  same-slot x SameCues.no-more = refl
+  same-slot x (SameCues.kept {c = c} {d = d} {a = a} e h) =
+      ap (λ (y : Cue). cond (standsAt x y) 0 (suc (slotAt x a))) e ∙ ap (λ n. cond (standsAt x d) 0 (suc n)) (same-slot x h)
+  same-slot x (SameCues.free e f h) = rw (e, f) (ap suc (same-slot x h))
 
-same-free : {a b : List Cue} → SameCues a b → freeSlot a ≡ freeSlot b
-unfolding freeSlot
-same-free SameCues.no-more = refl
-same-free (SameCues.kept {c = c} h) = ap (λ n. cond (c .kept) (suc n) 0) (same-free h)
-same-free (SameCues.free e f h) = rw (e, f) refl
+  same-free : {a b : List Cue} → SameCues keys a b → freeSlot a ≡ freeSlot b
+  unfolding freeSlot
+  same-free SameCues.no-more = refl
+  same-free (SameCues.kept {c = c} {d = d} {a = a} e h) = ap (λ (x : Cue). cond (x .kept) (suc (freeSlot a)) 0) e ∙ ap (λ n. cond (d .kept) (suc n) 0) (same-free h)
+  same-free (SameCues.free e f h) = rw (e, f) refl
 
--- the piano of the slot that keeps x
-same-piano : (x : ℕ) {a b : List Cue} (d e : Cue) → SameCues a b → slotAt x a < length a → getD a (slotAt x a) d .piano ≡ getD b (slotAt x b) e .piano
-unfolding slotAt
-same-piano x d e SameCues.no-more l = absurd (omega arith)
-same-piano x d e (SameCues.kept {c = c} {a = a} {b = b} h) l = go (standsAt x c) l (same-piano x d e h)
-  where
-    go : (q : Bool) → cond q 0 (suc (slotAt x a)) < suc (length a) → (slotAt x a < length a → getD a (slotAt x a) d .piano ≡ getD b (slotAt x b) e .piano)
-        → getD (c ∷ a) (cond q 0 (suc (slotAt x a))) d .piano ≡ getD (c ∷ b) (cond q 0 (suc (slotAt x b))) e .piano
-    go true l ih = refl
-    go false l ih = ih (omega arith)
-same-piano x d e (SameCues.free {c = c} {d = c′} {a = a} {b = b} k m h) l = go (c .kept) (c′ .kept) k m l (same-piano x d e h)
-  where
-    go : (p q : Bool) → p ≡ false → q ≡ false → cond (p && eqb x (c .position)) 0 (suc (slotAt x a)) < suc (length a)
-        → (slotAt x a < length a → getD a (slotAt x a) d .piano ≡ getD b (slotAt x b) e .piano)
-        → getD (c ∷ a) (cond (p && eqb x (c .position)) 0 (suc (slotAt x a))) d .piano ≡ getD (c′ ∷ b) (cond (q && eqb x (c′ .position)) 0 (suc (slotAt x b))) e .piano
-    go false false _ _ l ih = ih (omega arith)
-    go true q e _ _ _ = true-or-false true refl e
-    go false true _ e _ _ = true-or-false true refl e
+  -- the piano of the slot that keeps x, but for those counts
+  same-piano : (x : ℕ) {a b : List Cue} (d e : Cue) → SameCues keys a b → slotAt x a < length a
+      → ofKeys keys (getD a (slotAt x a) d .piano) ≡ ofKeys keys (getD b (slotAt x b) e .piano)
+  unfolding slotAt
+  same-piano x d e SameCues.no-more l = absurd (omega arith)
+  same-piano x d e (SameCues.kept {c = c} {d = c′} {a = a} {b = b} k h) l =
+      let stands : standsAt x c ≡ standsAt x c′ = ap (standsAt x) k in
+      rw stands (go (standsAt x c′) (rw stands at l) (same-piano x d e h))
+    where
+      go : (q : Bool) → cond q 0 (suc (slotAt x a)) < suc (length a)
+          → (slotAt x a < length a → ofKeys keys (getD a (slotAt x a) d .piano) ≡ ofKeys keys (getD b (slotAt x b) e .piano))
+          → ofKeys keys (getD (c ∷ a) (cond q 0 (suc (slotAt x a))) d .piano) ≡ ofKeys keys (getD (c′ ∷ b) (cond q 0 (suc (slotAt x b))) e .piano)
+      go true l ih = ap (λ (y : Cue). y .piano) k
+      go false l ih = ih (omega arith)
+  same-piano x d e (SameCues.free k m h) l = rw (k, m) (same-piano x d e h (omega (arith, rw k at l)))
 
 -- ---- what is asked of a session and its memory
 
 module _ (i : Instrument) (s : Session) (work : List Float) (s′ : Session) (work′ : List Float) (a : Alike i s work s′ work′) where
+  abbrev keys : ℕ
+  keys = i .«key_count»
+
   pub same-refusal : recordRefusal i s (length work) ≡ recordRefusal i s′ (length work′)
   unfolding recordRefusal soundSession
-  same-refusal = rw (a .score, a .number, a .position, a .piano, same-sound (i .«key_count») (a .cues), a .memory .cells) refl
+  same-refusal =
+      rw (a .score, a .number, a .position, same-sound-piano keys (s′ .t) (s .piano) (s′ .piano) (a .piano), same-sound keys (a .cues), a .memory .cells) refl
 
   same-cues : keptBy s ≡ keptBy s′
-  same-cues = same-kept (a .cues)
+  same-cues = same-kept keys (a .cues)
 
-  same-now : stateNow i s work ≡ stateNow i s′ work′
+  -- the piano now and what is held for x, but for those counts
+  same-now : SameState i (stateNow i s work) (stateNow i s′ work′)
   same-now =
       ap {B = State} (λ q. record { piano = q; cells = take (partCells i) work }) (a .piano)
-      ∙ ap {B = State} (λ l. record { piano = s′ .piano; cells = l }) (a .memory .now)
+      ∙ ap {B = State} (λ l. record { piano = ofKeys keys (s′ .piano); cells = l }) (a .memory .now)
 
-  same-held : (x : ℕ) → heldAt i s work x ≡ heldAt i s′ work′ x
+  same-held : (x : ℕ) → SameState i (heldAt i s work x) (heldAt i s′ work′ x)
   unfolding heldAt
-  same-held x = rw (sym (a .position), sym same-cues) (go (isIn x (keptBy s)) (slot-in x (s .cues)))
+  same-held x = rw (sym (a .position), sym same-cues) (go (eqb x (s .t)) (isIn x (keptBy s)) (slot-in x (s .cues)))
     where
-      same-slot-state : slotAt x (s .cues) < length (s .cues) → stateCue i s work (slotAt x (s .cues)) ≡ stateCue i s′ work′ (slotAt x (s′ .cues))
+      same-slot-state : slotAt x (s .cues) < length (s .cues) → SameState i (stateCue i s work (slotAt x (s .cues))) (stateCue i s′ work′ (slotAt x (s′ .cues)))
       same-slot-state l =
           let d = emptyCue (s .piano) in
           let kept = slot-kept x (s .cues) d l .0 in
-          ap {B = State} (λ q. record { piano = q; cells = part ((slotAt x (s .cues) + 1) * partCells i) (partCells i) work }) (same-piano x d (emptyCue (s′ .piano)) (a .cues) l)
-          ∙ ap {B = State} (λ c. record { piano = cueAt s′ (slotAt x (s′ .cues)) .piano; cells = c }) (a .memory .held (slotAt x (s .cues)) d l kept)
-          ∙ ap {B = State} (λ n. record { piano = cueAt s′ (slotAt x (s′ .cues)) .piano; cells = part ((n + 1) * partCells i) (partCells i) work′ }) (same-slot x (a .cues))
+          let piano = ofKeys keys (cueAt s′ (slotAt x (s′ .cues)) .piano) in
+          ap {B = State} (λ q. record { piano = q; cells = part ((slotAt x (s .cues) + 1) * partCells i) (partCells i) work }) (same-piano keys x d (emptyCue (s′ .piano)) (a .cues) l)
+          ∙ ap {B = State} (λ c. record { piano = piano; cells = c }) (a .memory .held (slotAt x (s .cues)) d l kept)
+          ∙ ap {B = State} (λ n. record { piano = piano; cells = part ((n + 1) * partCells i) (partCells i) work′ }) (same-slot keys x (a .cues))
 
-      go : (b : Bool) → ltb (slotAt x (s .cues)) (length (s .cues)) ≡ b
-          → cond (eqb x (s .t)) (stateNow i s work) (cond b (stateCue i s work (slotAt x (s .cues))) (silence i))
-          ≡ cond (eqb x (s .t)) (stateNow i s′ work′) (cond b (stateCue i s′ work′ (slotAt x (s′ .cues))) (silence i))
-      go false e = ap (λ q. cond (eqb x (s .t)) q (silence i)) same-now
-      go true e =
-          ap (λ q. cond (eqb x (s .t)) q (stateCue i s work (slotAt x (s .cues)))) same-now
-          ∙ ap (λ q. cond (eqb x (s .t)) (stateNow i s′ work′) q) (same-slot-state (ltb-true (slotAt x (s .cues)) (length (s .cues)) e))
+      go : (n b : Bool) → ltb (slotAt x (s .cues)) (length (s .cues)) ≡ b
+          → SameState i (cond n (stateNow i s work) (cond b (stateCue i s work (slotAt x (s .cues))) (silence i)))
+          (cond n (stateNow i s′ work′) (cond b (stateCue i s′ work′ (slotAt x (s′ .cues))) (silence i)))
+      go true b e = same-now
+      go false false e = refl
+      go false true e = same-slot-state (ltb-true (slotAt x (s .cues)) (length (s .cues)) e)
 
 -- ---- what a call leaves
 
-set-same : {a b : List Cue} (j : ℕ) (c : Cue) → SameCues a b → SameCues (set a j c) (set b j c)
-set-same j c SameCues.no-more = SameCues.no-more
-set-same zero c (SameCues.kept h) = SameCues.kept h
-set-same (suc j) c (SameCues.kept h) = SameCues.kept (set-same j c h)
-set-same zero c (SameCues.free e f h) = SameCues.kept h
-set-same (suc j) c (SameCues.free e f h) = SameCues.free e f (set-same j c h)
+module _ (keys : ℕ) where
+  set-same : {a b : List Cue} (j : ℕ) (c d : Cue) → cueOfKeys keys c ≡ cueOfKeys keys d → SameCues keys a b → SameCues keys (set a j c) (set b j d)
+  set-same j c d q SameCues.no-more = SameCues.no-more
+  set-same zero c d q (SameCues.kept e h) = SameCues.kept q h
+  set-same (suc j) c d q (SameCues.kept e h) = SameCues.kept e (set-same j c d q h)
+  set-same zero c d q (SameCues.free e f h) = SameCues.kept q h
+  set-same (suc j) c d q (SameCues.free e f h) = SameCues.free e f (set-same j c d q h)
 
-drop-same : {a b : List Cue} (q : ℕ) → SameCues a b → SameCues (map (dropAbove q) a) (map (dropAbove q) b)
-drop-same q SameCues.no-more = SameCues.no-more
-drop-same q (SameCues.kept h) = SameCues.kept (drop-same q h)
-drop-same q (SameCues.free {c = c} {d = d} e f h) = SameCues.free {c = dropAbove q c} {d = dropAbove q d} (rw e refl) (rw f refl) (drop-same q h)
+  drop-same : {a b : List Cue} (q : ℕ) → SameCues keys a b → SameCues keys (map (dropAbove q) a) (map (dropAbove q) b)
+  drop-same q SameCues.no-more = SameCues.no-more
+  drop-same q (SameCues.kept {c = c} {d = d} e h) = SameCues.kept {c = dropAbove q c} {d = dropAbove q d} (ap (dropAbove q) e) (drop-same q h)
+  drop-same q (SameCues.free {c = c} {d = d} e f h) = SameCues.free {c = dropAbove q c} {d = dropAbove q d} (rw e refl) (rw f refl) (drop-same q h)
 
 module _ (w : ℕ) (cues : List Cue) (work work′ left left′ : List Float) (m : SameMemory w cues work work′) (room : 5 * w ≤ length work) where
   room′ : 5 * w ≤ length work′
@@ -167,14 +179,14 @@ module _ (w : ℕ) (cues : List Cue) (work work′ left left′ : List Float) (m
   abbrev first′ : List Float
   first′ = take w work′
 
-  -- both with the same state's cells as their new first part
-  front-same : (st st′ : State) → st′ ≡ st → length (st .cells) ≡ w → left ≡ st .cells ++ drop w work → left′ ≡ st′ .cells ++ drop w work′ → SameMemory w cues left left′
-  front-same st st′ same size e h =
-      let e′ : left′ ≡ st .cells ++ drop w work′ = h ∙ ap (λ x. x .cells ++ drop w work′) same in
+  -- both with the same cells as their new first part
+  front-same : (new new′ : List Float) → new ≡ new′ → length new ≡ w → left ≡ new ++ drop w work → left′ ≡ new′ ++ drop w work′ → SameMemory w cues left left′
+  front-same new new′ same size e h =
+      let e′ : left′ ≡ new ++ drop w work′ = h ∙ ap (λ l. l ++ drop w work′) (sym same) in
       record {
-        cells = front-length w (st .cells) work left e size room ∙ m .cells ∙ sym (front-length w (st .cells) work′ left′ e′ size room′);
-        now = front-now w (st .cells) work left e size room ∙ sym (front-now w (st .cells) work′ left′ e′ size room′);
-        held = λ j d l k. front-cue w (st .cells) work left e size room j ∙ m .held j d l k ∙ sym (front-cue w (st .cells) work′ left′ e′ size room′ j);
+        cells = front-length w new work left e size room ∙ m .cells ∙ sym (front-length w new work′ left′ e′ size room′);
+        now = front-now w new work left e size room ∙ sym (front-now w new work′ left′ e′ size room′);
+        held = λ j d l k. front-cue w new work left e size room j ∙ m .held j d l k ∙ sym (front-cue w new work′ left′ e′ size room′ j);
       }
 
   -- both with their first part put into slot f, which keeps the cue c
@@ -242,17 +254,25 @@ module _ (i : Instrument) (s : Session) (work : List Float) (s′ : Session) (wo
       abbrev ran : State
       ran = run i (scoreOf s) (s .t) (length out) (stateNow i s work)
 
-      same-ran : run i (scoreOf s′) (s′ .t) (length out₀) (stateNow i s′ work′) ≡ ran
-      same-ran = rw (a .score, a .position, same-now i s work s′ work′ a, outs) refl
+      abbrev ran′ : State
+      ran′ = run i (scoreOf s′) (s′ .t) (length out₀) (stateNow i s′ work′)
+
+      -- the run from either, its contacts, its forces and its samples
+      same-ran : SameState i ran ran′
+      same-ran = rw (sym (a .score), sym (a .position), sym outs) (same-run i (scoreOf s) (s .t) _ _ (same-now i s work s′ work′ a) (length out))
+
+      same-count : contactsOf (i .«key_count») (ran .piano) ≡ contactsOf (i .«key_count») (ran′ .piano)
+      same-count = same-contacts (i .«key_count») (ran .piano) (ran′ .piano) (ap (λ (x : State). x .piano) same-ran)
 
       abbrev pushed : List Float
       pushed = forces i (scoreOf s) (s .t) (length out) (stateNow i s work)
 
       same-pushed : forces i (scoreOf s′) (s′ .t) (length out₀) (stateNow i s′ work′) ≡ pushed
-      same-pushed = rw (a .score, a .position, same-now i s work s′ work′ a, outs) refl
+      same-pushed = rw (sym (a .score), sym (a .position), sym outs) (sym (same-forces i (scoreOf s) (s .t) _ _ (same-now i s work s′ work′ a) (length out)))
 
       same-sounded : out₁ ≡ out₂
-      same-sounded = rw (d .sound, d′ .sound, a .score, a .position, same-now i s work s′ work′ a, outs) refl
+      same-sounded =
+          rw (d .sound, d′ .sound, sym (a .score), sym (a .position), sym outs) (same-samples i (scoreOf s) (s .t) _ _ (same-now i s work s′ work′ a) (length out))
 
       -- the first k cells of either trace
       traced : take (length pushed) trace₁ ≡ pushed
@@ -265,16 +285,16 @@ module _ (i : Instrument) (s : Session) (work : List Float) (s′ : Session) (wo
       play-accepted : SameOutcome i r left out₁ trace₁ r′ left′ out₂ trace₂
       play-accepted =
           record {
-            answer = rw (d .answer, d′ .answer, same-pushed) refl;
-            reply = rw (d .answer, d′ .answer, same-pushed, same-sounded, traced, traced′) refl;
+            answer = rw (d .answer, d′ .answer, same-pushed, same-count) refl;
+            reply = rw (d .answer, d′ .answer, same-pushed, same-count, same-sounded, traced, traced′) refl;
             after = rw (d .session, d′ .session)
                 (record {
                   position = rw (a .position, outs) refl;
                   number = a .number;
                   score = a .score;
                   cues = a .cues;
-                  piano = rw same-ran refl;
-                  memory = front-same W (s .cues) work work′ left left′ (a .memory) (p .room) ran _ same-ran
+                  piano = ap (λ (x : State). x .piano) same-ran;
+                  memory = front-same W (s .cues) work work′ left left′ (a .memory) (p .room) (ran .cells) (ran′ .cells) (ap (λ (x : State). x .cells) same-ran)
                       (run-cells i (p .sound) (scoreOf s) (s .t) (length out) (stateNow i s work) (length-take-le W work (omega (arith, p .room)))) (d .memory) (d′ .memory);
                   long = a .long;
                   long′ = a .long′;
@@ -301,6 +321,9 @@ module _ (i : Instrument) (s : Session) (work : List Float) (s′ : Session) (wo
         let k′ = d′ .adds (rw (sym (a .position), sym (same-cues i s work s′ work′ a)) e) in
         let slot = freeSlot (s .cues) in
         let new : Cue = record { kept = true; position = s .t; piano = s .piano } in
+        let new′ : Cue = record { kept = true; position = s .t; piano = s′ .piano } in
+        let same : cueOfKeys (i .«key_count») new ≡ cueOfKeys (i .«key_count») new′ = ap {B = Cue} (λ q. record { kept = true; position = s .t; piano = q }) (a .piano) in
+        let same-place = sym (same-free (i .«key_count») (a .cues)) in
         record {
           answer = d .answer ∙ sym (d′ .answer);
           reply = rw (d .answer, d′ .answer) refl;
@@ -309,10 +332,10 @@ module _ (i : Instrument) (s : Session) (work : List Float) (s′ : Session) (wo
                 position = a .position;
                 number = a .number;
                 score = a .score;
-                cues = rw (sym (same-free (a .cues)), sym (a .position), sym (a .piano)) (set-same slot new (a .cues));
+                cues = rw (same-place, sym (a .position)) (set-same (i .«key_count») slot new new′ same (a .cues));
                 piano = a .piano;
                 memory = slot-same W (s .cues) work work′ left left′ (a .memory) (p .records .room) slot new (free-slot-there (s .t) (s .cues) (a .four) e (p .free)) (k .1)
-                    (rw (sym (same-free (a .cues))) at (k′ .1));
+                    (rw same-place at (k′ .1));
                 long = a .long;
                 long′ = a .long′;
                 four = length-set (s .cues) slot new ∙ a .four;
@@ -338,8 +361,10 @@ module _ (i : Instrument) (s : Session) (work : List Float) (s′ : Session) (wo
         → SameOutcome i r left out trace r′ left′ out₀ trace₀
     go-accepted d d′ p =
         let ran = run i (scoreOf s) start (q - start) (heldAt i s work start) in
-        let same-ran : run i (scoreOf s′) (startOf (s′ .t) (keptBy s′) q) (q - startOf (s′ .t) (keptBy s′) q) (heldAt i s′ work′ (startOf (s′ .t) (keptBy s′) q)) ≡ ran =
-        rw (same-start, a .score, same-held i s work s′ work′ a start) refl in
+        let start′ = startOf (s′ .t) (keptBy s′) q in
+        let ran′ = run i (scoreOf s′) start′ (q - start′) (heldAt i s′ work′ start′) in
+        let same-ran : SameState i ran ran′ =
+        rw (same-start, sym (a .score)) (same-run i (scoreOf s) start _ _ (same-held i s work s′ work′ a start) (q - start)) in
         record {
           answer = rw (d .answer, d′ .answer, same-start) refl;
           reply = rw (d .answer, d′ .answer, same-start) refl;
@@ -349,8 +374,8 @@ module _ (i : Instrument) (s : Session) (work : List Float) (s′ : Session) (wo
                 number = a .number;
                 score = a .score;
                 cues = a .cues;
-                piano = rw same-ran refl;
-                memory = front-same W (s .cues) work work′ left left′ (a .memory) (p .room) ran _ same-ran
+                piano = ap (λ (x : State). x .piano) same-ran;
+                memory = front-same W (s .cues) work work′ left left′ (a .memory) (p .room) (ran .cells) (ran′ .cells) (ap (λ (x : State). x .cells) same-ran)
                     (run-cells i (p .sound) (scoreOf s) start (q - start) (heldAt i s work start) (held-length i s work start (a .four) (p .sound) (p .room))) (d .memory) (d′ .memory);
                 long = a .long;
                 long′ = a .long′;
@@ -377,7 +402,8 @@ module _ (i : Instrument) (s : Session) (work : List Float) (s′ : Session) (wo
         → SameOutcome i r left out trace r′ left′ out₀ trace₀
     edit-accepted d d′ p e f l l′ =
         let held = heldAt i s work t′ in
-        let same : heldAt i s′ work′ (settled (s′ .t) (keptBy s′) q) ≡ held = rw (same-t, same-held i s work s′ work′ a t′) refl in
+        let held′ = heldAt i s′ work′ (settled (s′ .t) (keptBy s′) q) in
+        let same : SameState i held held′ = rw same-t (same-held i s work s′ work′ a t′) in
         record {
           answer = rw (d .answer, d′ .answer, same-t, same-cues i s work s′ work′ a) refl;
           reply = rw (d .answer, d′ .answer, same-t, same-cues i s work s′ work′ a) refl;
@@ -386,9 +412,10 @@ module _ (i : Instrument) (s : Session) (work : List Float) (s′ : Session) (wo
                 position = sym same-t;
                 number = e;
                 score = f;
-                cues = drop-same q (a .cues);
-                piano = rw same refl;
-                memory = front-same W (map (dropAbove q) (s .cues)) work work′ left left′ (fewer-same W q (s .cues) work work′ (a .memory)) (p .room) held _ same
+                cues = drop-same (i .«key_count») q (a .cues);
+                piano = ap (λ (x : State). x .piano) same;
+                memory = front-same W (map (dropAbove q) (s .cues)) work work′ left left′ (fewer-same W q (s .cues) work work′ (a .memory)) (p .room) (held .cells) (held′ .cells)
+                    (ap (λ (x : State). x .cells) same)
                     (held-length i s work t′ (a .four) (p .sound) (p .room)) (d .memory) (d′ .memory);
                 long = l;
                 long′ = l′;

@@ -8,8 +8,9 @@ use lib.Ieee.{Float}
 use lib.ListN.{length, take, getD}
 use Rattle.instrument.specs.declared.Instrument.{Instrument}
 use Rattle.score.specs.Score.{eventsAt}
+use Rattle.score.specs.Contacts.{contactsOf}
 use Rattle.score.specs.Due.{due, leftAt}
-use Rattle.render.specs.Render.{renderState}
+use Rattle.render.specs.Render.{renderState, renderContacts}
 use Rattle.positions.specs.Positions.{Same}
 use Rattle.score_edits.specs.Edits.{RisingRanks}
 use Rattle.machine.specs.Machine.{Machine, Call, Reply, opened, final, replies}
@@ -25,7 +26,7 @@ use Rattle.session.specs.Calls.{PlayMeets, CueMeets, GoMeets, InsertMeets, Remo
 abbrev pub replyOf : Answer → List Float → List Float → Reply
 replyOf (Refused n) out trace = Reply.refused n
 replyOf Opened out trace = Reply.refused 0
-replyOf (Played k) out trace = Reply.played k out (take k trace)
+replyOf (Played k contacts) out trace = Reply.played k contacts out (take k trace)
 replyOf Cued out trace = Reply.cued
 replyOf (Went n) out trace = Reply.went n
 replyOf (Edited t n) out trace = Reply.edited t n
@@ -56,6 +57,11 @@ pub record Follows (i : Instrument) (s : Session) (work : List Float) (p : Machi
   pub now : stateNow i s work ≡ renderState i (p .score) (p .t)
   pub held : (j : ℕ) → j < 4 → cueAt s j .kept ≡ true → stateCue i s work j ≡ renderState i (p .score) (cueAt s j .position)
 
+-- Document 02, W2: "After every list of demand 3 the sum over keys is the Rust's contact_samples for the standing score at t", and for every kept cue that at its own position
+pub record Counts (i : Instrument) (s : Session) (p : Machine) : Type 0 where
+  pub now : contactsOf (i .«key_count») (s .piano) ≡ renderContacts i (p .score) (p .t)
+  pub held : (j : ℕ) → j < 4 → cueAt s j .kept ≡ true → contactsOf (i .«key_count») (cueAt s j .piano) ≡ renderContacts i (p .score) (cueAt s j .position)
+
 -- the machine after the first k calls of a list; from the list's length on, after all of them
 abbrev pub standing : Instrument → List Call → ℕ → Machine
 standing i cs k = final i opened (take k cs)
@@ -65,6 +71,7 @@ pub record Claim (i : Instrument) (cs : List Call) (rs : List Reply) (s : Sessio
   -- "every answer .. are those of 01's plain machine for that list"; "Each block played equals that render's samples and forces, for the score standing then."
   pub answers : rs ≡ replies i opened cs
   pub after : Follows i s work (final i opened cs)
+  pub counts : Counts i s (final i opened cs)
   -- "7 and 8 never come in such a list": every refusal is from 9 to 16
   pub allowed : (k : ℕ) → k < length rs → Allowed (getD rs k Reply.cued)
   -- "Each accepted go reports .. target minus start, never more than from 0, from the position before the go or from any kept cue, of those not above the target."

@@ -14,11 +14,13 @@ use lib.Seq.{take-at, drop-at, length-take-le, getD-set-same, getD-set-other}
 use Rattle.cells.specs.Splice.{part}
 use Rattle.instrument.specs.declared.Instrument.{Instrument}
 use Rattle.instrument.specs.Work.{partCells}
+use Rattle.instrument.specs.ValidLaws.{valid-counts}
 use Rattle.score.specs.declared.TimedEvent.{TimedEvent}
 use Rattle.score.specs.Events.{State}
 use Rattle.score.specs.Score.{noEvent, eventsAt}
-use Rattle.render.specs.Render.{run, samples, forces, silence, renderState, renderSamples, renderForces}
-use Rattle.render.specs.Laws.{samples-length, render-then, render-local, render-samples, render-forces}
+use Rattle.score.specs.Contacts.{contactsOf}
+use Rattle.render.specs.Render.{run, samples, forces, silence, renderState, renderSamples, renderForces, renderContacts}
+use Rattle.render.specs.Laws.{samples-length, render-then, render-local, render-samples, render-forces, render-sum}
 use Rattle.positions.specs.Positions.{others, count, isIn, upTo, greatest}
 use Rattle.positions.specs.Laws.{and-true, same-cons, same-upTo, in-front, in-cons, in-same, in-upTo, greatest-same, greatest-member, greatest-upTo}
 use Rattle.score_edits.specs.Edits.{placed, removed}
@@ -136,10 +138,15 @@ module _ (i : Instrument) (s : Session) (work : List Float) (p : Machine) (g : S
       sounded-is : out′ ≡ blockSamples i (p .score) (p .t) m
       sounded-is = d .sound ∙ rw (f .score, f .position, f .now) (sym (block-samples i (p .score) (p .t) m))
 
-      play-reply : replyOf (r .answer) out′ trace′ ≡ Reply.played (length (blockForces i (p .score) (p .t) m)) (blockSamples i (p .score) (p .t) m) (blockForces i (p .score) (p .t) m)
+      counted-is : contactsOf (i .«key_count») (run i (scoreOf s) (s .t) m (stateNow i s work) .piano) ≡ renderContacts i (p .score) (p .t + m)
+      counted-is =
+          rw (f .score, f .position, f .now, ← render-then i (p .score) (p .t) m) (render-sum i (p .score) (valid-counts i (g .instrument) .fewKeys) (p .t + m))
+
+      play-reply : replyOf (r .answer) out′ trace′
+          ≡ Reply.played (length (blockForces i (p .score) (p .t) m)) (renderContacts i (p .score) (p .t + m)) (blockSamples i (p .score) (p .t) m) (blockForces i (p .score) (p .t) m)
       play-reply =
           let k : take (length pushed) trace′ ≡ pushed = ap (take (length pushed)) (d .pushes) ∙ take-at pushed (drop (length pushed) trace) (length pushed) refl in
-          rw (d .answer, k, pushed-is, sounded-is)
+          rw (d .answer, k, counted-is, pushed-is, sounded-is)
 
     play-step : Stands i (r .session) work′ (does i p playing .0) × (replyOf (r .answer) out′ trace′ ≡ does i p playing .1)
     unfolding does

@@ -10,7 +10,7 @@ use denote.Laws.{Is}
 use denote.Shadow.{shadow}
 use denote.Enum.Declared as Chosen
 use denote.Struct.Declared as Declared
-use denote.Struct.Field.{bool-field, f64-field}
+use denote.Struct.Field.{bool-field, f64-field, u64-field}
 use Rattle.little_endian.specs.Floats.{Fit}
 use Rattle.points.specs.declared.HammerState.{HammerState}
 use Rattle.points.specs.declared.HammerState.the-variants.{Resting, Flying}
@@ -36,7 +36,7 @@ fit-hammer Resting vs g = tt
 fit-hammer (Flying k y v) vs g = let o = g .1 .1 .1 .1 in (passes _ (o .1 .0 .1), passes _ (o .1 .1 .0 .1))
 
 fit-motion : (m : Motion) (vs : List Val) → Is (Declared.row MotionType.the-type) m vs → FitMotion m
-fit-motion m vs g = let o = g .1 .1 in record { hammer = fit-hammer (m .hammer) _ (o .0); peak = passes _ (o .1 .1 .0 .1) }
+fit-motion m vs g = let o = g .1 .1 in record { hammer = fit-hammer (m .hammer) _ (o .0); peak = passes _ (o .1 .0 .1) }
 
 pub fit-piano : (p : Piano) (vs : List Val) → Is (Declared.row PianoType.the-type) p vs → FitPiano p
 fit-piano p vs g =
@@ -44,10 +44,12 @@ fit-piano p vs g =
     let held = o .0 .1 in
     let hand = o .1 .0 .1 in
     let damper = o .1 .1 .0 .1 in
+    let contacts = o .1 .1 .1 .0 .1 in
     record {
       heldLong = sym (length-map (p .held) (bool-field .into)) ∙ held .0 .1;
       handLong = sym (length-map (p .«hand_damped») (bool-field .into)) ∙ hand .0 .1;
       damperLong = sym (length-map (p .«damper_r») (f64-field .into)) ∙ damper .0 .1;
+      contactsLong = sym (length-map (p .«contact_samples») (u64-field .into)) ∙ contacts .0 .1;
       dampers = all-owned (f64-field .into) (f64-field .row .own) Fit (λ x v g. passes _ (g .1)) (p .«damper_r») _ (damper .1);
-      motion = fit-motion (p .motion) _ (o .1 .1 .1 .1 .0);
+      motion = fit-motion (p .motion) _ (o .1 .1 .1 .1 .1 .0);
     }

@@ -13,10 +13,10 @@ use Rattle.points.specs.declared.HammerState.{HammerState}
 use Rattle.points.specs.declared.HammerState.the-variants.{Resting, Flying}
 use Rattle.sample.specs.declared.Motion.{Motion}
 use Rattle.score.specs.declared.Piano.{Piano}
-use Rattle.session_words.specs.Layout.{contactOffset, peakOffset, handDampedOffset, dampersOffset, pedalOffset, motionOffset}
+use Rattle.session_words.specs.Layout.{peakOffset, handDampedOffset, dampersOffset, contactsOffset, pedalOffset, motionOffset}
 use Rattle.session_words.specs.Items.{joined, itemsOf, sets-next}
-use Rattle.session_words.specs.Piano.{bitOf, flagWord, flagOf, floatWord, floatOf, hammerWords, hammerFrom, motionWords, motionOf, pianoWords, pianoOf}
-use Rattle.session_words.specs.PianoLaws.{flags-length, floats-length, hammer-length}
+use Rattle.session_words.specs.Piano.{bitOf, flagWord, flagOf, floatWord, floatOf, countWord, countOf, hammerWords, hammerFrom, motionWords, motionOf, pianoWords, pianoOf}
+use Rattle.session_words.specs.PianoLaws.{flags-length, floats-length, counts-length, hammer-length}
 use Rattle.session_words.proofs.Runs.{first}
 
 -- ---- reading
@@ -34,50 +34,65 @@ module _ (w : List ℕ) (at : ℕ) where
     pub hammer-rests : (flies ≡ 1 → ⊥) → Resting ≡ hammerFrom (drop at w)
     hammer-rests h = sym (ap (λ (t : Bool). cond t (Flying key y v) Resting) (ne-eqb flies 1 h)) ∙ hammer-read
 
-  pub motion-read : (h : HammerState) (n b : ℕ) (x : Float) → h ≡ hammerFrom (drop at w) → n ≡ getD w (at + contactOffset) 0 → b ≡ getD w (at + peakOffset) 0 → x ≡ ofBits binary64 b
-      → record { hammer = h; «contact_samples» = n; «peak_force» = x } ≡ motionOf (drop at w)
+  pub motion-read : (h : HammerState) (b : ℕ) (x : Float) → h ≡ hammerFrom (drop at w) → b ≡ getD w (at + peakOffset) 0 → x ≡ ofBits binary64 b
+      → record { hammer = h; «peak_force» = x } ≡ motionOf (drop at w)
   unfolding motionOf
-  motion-read h n b x eh en eb ex =
-      rw (eh, en, ex, eb, getD-drop at w contactOffset 0, getD-drop at w peakOffset 0)
+  motion-read h b x eh eb ex = rw (eh, ex, eb, getD-drop at w peakOffset 0)
 
-  pub piano-read : (held hand : List Bool) (damper : List Float) (pedal : ℕ) (m : Motion) → held ≡ itemsOf flagOf 1 16 (drop at w) → hand ≡ itemsOf flagOf 1 16 (drop (at + handDampedOffset) w)
-      → damper ≡ itemsOf floatOf 1 16 (drop (at + dampersOffset) w) → pedal ≡ getD w (at + pedalOffset) 0 → m ≡ motionOf (drop (at + motionOffset) w)
-      → record { held = held; «hand_damped» = hand; «damper_r» = damper; pedal = eqb pedal 1; motion = m } ≡ pianoOf (drop at w)
+  pub piano-read : (held hand : List Bool) (damper : List Float) (counts : List ℕ) (pedal : ℕ) (m : Motion) → held ≡ itemsOf flagOf 1 16 (drop at w)
+      → hand ≡ itemsOf flagOf 1 16 (drop (at + handDampedOffset) w) → damper ≡ itemsOf floatOf 1 16 (drop (at + dampersOffset) w)
+      → counts ≡ itemsOf countOf 1 16 (drop (at + contactsOffset) w) → pedal ≡ getD w (at + pedalOffset) 0 → m ≡ motionOf (drop (at + motionOffset) w)
+      → record { held = held; «hand_damped» = hand; «damper_r» = damper; «contact_samples» = counts; pedal = eqb pedal 1; motion = m } ≡ pianoOf (drop at w)
   unfolding pianoOf
-  piano-read held hand damper pedal m e1 e2 e3 e4 e5 =
-      rw (e1, e2, e3, e4, e5, drop-drop handDampedOffset at w, drop-drop dampersOffset at w, drop-drop pedalOffset at w, drop-drop motionOffset at w, first w (at + pedalOffset))
+  piano-read held hand damper counts pedal m e1 e2 e3 e4 e5 e6 =
+      rw (
+        e1,
+        e2,
+        e3,
+        e4,
+        e5,
+        e6,
+        drop-drop handDampedOffset at w,
+        drop-drop dampersOffset at w,
+        drop-drop contactsOffset at w,
+        drop-drop pedalOffset at w,
+        drop-drop motionOffset at w,
+        first w (at + pedalOffset),
+      )
 
 -- ---- writing
 
-pub motion-stores : (l l1 l2 l3 : List ℕ) (at b : ℕ) (m : Motion) → l1 ≡ sets l at (hammerWords (m .hammer)) → l2 ≡ set l1 (at + contactOffset) (m .«contact_samples»)
-    → b ≡ toBits binary64 (m .«peak_force»)
-    → l3 ≡ set l2 (at + peakOffset) b → l3 ≡ sets l at (motionWords m)
+pub motion-stores : (l l1 l2 : List ℕ) (at b : ℕ) (m : Motion) → l1 ≡ sets l at (hammerWords (m .hammer)) → b ≡ toBits binary64 (m .«peak_force») → l2 ≡ set l1 (at + peakOffset) b
+    → l2 ≡ sets l at (motionWords m)
 unfolding motionWords
-motion-stores l l1 l2 l3 at b m e1 e2 eb e3 =
+motion-stores l l1 l2 at b m e1 eb e2 =
     let h = hammerWords (m .hammer) in
-    let n : at + contactOffset ≡ at + length h = ap (λ (k : ℕ). at + k) (sym (hammer-length (m .hammer))) in
-    let n5 : at + peakOffset ≡ suc (at + contactOffset) = omega arith in
-    rw (e3, e2, e1, eb, n5) (sets-next l h (m .«contact_samples» ∷ toBits binary64 (m .«peak_force») ∷ []) at (at + contactOffset) n)
+    let n : at + peakOffset ≡ at + length h = ap (λ (k : ℕ). at + k) (sym (hammer-length (m .hammer))) in
+    rw (e2, e1, eb) (sets-next l h (toBits binary64 (m .«peak_force») ∷ []) at (at + peakOffset) n)
 
-module _ (p : Piano) (h1 : length (p .held) ≡ 16) (h2 : length (p .«hand_damped») ≡ 16) (h3 : length (p .«damper_r») ≡ 16) where
-  pub piano-stores : (l l1 l2 l3 l4 l5 : List ℕ) (at b : ℕ) → l1 ≡ sets l at (joined flagWord (p .held)) → l2 ≡ sets l1 (at + handDampedOffset) (joined flagWord (p .«hand_damped»))
-      → l3 ≡ sets l2 (at + dampersOffset) (joined floatWord (p .«damper_r»)) → b ≡ bitOf (p .pedal) → l4 ≡ set l3 (at + pedalOffset) b → l5 ≡ sets l4 (at + motionOffset) (motionWords (p .motion))
-      → l5 ≡ sets l at (pianoWords p)
+module _ (p : Piano) (h1 : length (p .held) ≡ 16) (h2 : length (p .«hand_damped») ≡ 16) (h3 : length (p .«damper_r») ≡ 16) (h4 : length (p .«contact_samples») ≡ 16) where
+  pub piano-stores : (l l1 l2 l3 l4 l5 l6 : List ℕ) (at b : ℕ) → l1 ≡ sets l at (joined flagWord (p .held)) → l2 ≡ sets l1 (at + handDampedOffset) (joined flagWord (p .«hand_damped»))
+      → l3 ≡ sets l2 (at + dampersOffset) (joined floatWord (p .«damper_r»)) → l4 ≡ sets l3 (at + contactsOffset) (joined countWord (p .«contact_samples»)) → b ≡ bitOf (p .pedal)
+      → l5 ≡ set l4 (at + pedalOffset) b → l6 ≡ sets l5 (at + motionOffset) (motionWords (p .motion)) → l6 ≡ sets l at (pianoWords p)
   unfolding pianoWords
-  piano-stores l l1 l2 l3 l4 l5 at b e1 e2 e3 eb e4 e5 =
+  piano-stores l l1 l2 l3 l4 l5 l6 at b e1 e2 e3 e4 eb e5 e6 =
       let x1 = joined flagWord (p .held) in
       let x2 = joined flagWord (p .«hand_damped») in
       let x3 = joined floatWord (p .«damper_r») in
-      let x4 = bitOf (p .pedal) ∷ motionWords (p .motion) in
+      let x4 = joined countWord (p .«contact_samples») in
+      let x5 = bitOf (p .pedal) ∷ motionWords (p .motion) in
       let n1 = flags-length (p .held) in
       let n2 = flags-length (p .«hand_damped») in
       let n3 = floats-length (p .«damper_r») in
+      let n4 = counts-length (p .«contact_samples») in
       let m : at + motionOffset ≡ suc (at + pedalOffset) = omega arith in
-      let last : l5 ≡ sets l3 (at + pedalOffset) x4 = rw (e5, e4, eb, m) in
+      let last : l6 ≡ sets l4 (at + pedalOffset) x5 = rw (e6, e5, eb, m) in
       last
-      ∙ ap (λ (v : List ℕ). sets v (at + pedalOffset) x4) e3
-      ∙ sets-next l2 x3 x4 (at + dampersOffset) (at + pedalOffset) (omega arith)
-      ∙ ap (λ (v : List ℕ). sets v (at + dampersOffset) (x3 ++ x4)) e2
-      ∙ sets-next l1 x2 (x3 ++ x4) (at + handDampedOffset) (at + dampersOffset) (omega arith)
-      ∙ ap (λ (v : List ℕ). sets v (at + handDampedOffset) (x2 ++ (x3 ++ x4))) e1
-      ∙ sets-next l x1 (x2 ++ (x3 ++ x4)) at (at + handDampedOffset) (omega arith)
+      ∙ ap (λ (v : List ℕ). sets v (at + pedalOffset) x5) e4
+      ∙ sets-next l3 x4 x5 (at + contactsOffset) (at + pedalOffset) (omega arith)
+      ∙ ap (λ (v : List ℕ). sets v (at + contactsOffset) (x4 ++ x5)) e3
+      ∙ sets-next l2 x3 (x4 ++ x5) (at + dampersOffset) (at + contactsOffset) (omega arith)
+      ∙ ap (λ (v : List ℕ). sets v (at + dampersOffset) (x3 ++ (x4 ++ x5))) e2
+      ∙ sets-next l1 x2 (x3 ++ (x4 ++ x5)) (at + handDampedOffset) (at + dampersOffset) (omega arith)
+      ∙ ap (λ (v : List ℕ). sets v (at + handDampedOffset) (x2 ++ (x3 ++ (x4 ++ x5)))) e1
+      ∙ sets-next l x1 (x2 ++ (x3 ++ (x4 ++ x5))) at (at + handDampedOffset) (omega arith)

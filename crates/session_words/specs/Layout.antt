@@ -1,21 +1,18 @@
 -- The layout of a session's words: how many words each part has, and where it stands in the part that holds it. Definitions only: assumes nothing.
 use Prim.Native.Nat.{ℕ, _+_, _*_}
 
--- ---- the hammer's motion: the hammer, contact samples, peak force
+-- ---- the hammer's motion: the hammer, peak force
 
 abbrev pub hammerSize : ℕ
 hammerSize = 4
 
-abbrev pub contactOffset : ℕ
-contactOffset = hammerSize
-
 abbrev pub peakOffset : ℕ
-peakOffset = contactOffset + 1
+peakOffset = hammerSize
 
 abbrev pub motionSize : ℕ
 motionSize = peakOffset + 1
 
--- ---- a piano's small state: 16 held from 0 on, 16 hand-damped, 16 damper resistances, the pedal, the motion
+-- ---- a piano's small state: 16 held from 0 on, 16 hand-damped, 16 damper resistances, 16 contact samples, the pedal, the motion
 
 abbrev pub handDampedOffset : ℕ
 handDampedOffset = 16
@@ -23,8 +20,11 @@ handDampedOffset = 16
 abbrev pub dampersOffset : ℕ
 dampersOffset = handDampedOffset + 16
 
+abbrev pub contactsOffset : ℕ
+contactsOffset = dampersOffset + 16
+
 abbrev pub pedalOffset : ℕ
-pedalOffset = dampersOffset + 16
+pedalOffset = contactsOffset + 16
 
 abbrev pub motionOffset : ℕ
 motionOffset = pedalOffset + 1

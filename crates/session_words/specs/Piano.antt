@@ -1,5 +1,5 @@
--- A piano's small state as words: 16 held, 16 hand-damped, 16 damper resistances, the pedal, then the hammer (1 where it flies, its key's index, y_h, v_h), contact samples and peak force.
--- A bool is 1 or 0, a float its bits. Definitions only: assumes nothing.
+-- A piano's small state as words: 16 held, 16 hand-damped, 16 damper resistances, 16 contact samples, the pedal, then the hammer (1 where it flies, its key's index, y_h, v_h) and peak
+-- force. A bool is 1 or 0, a float its bits. Definitions only: assumes nothing.
 use mathlib.Core.Bool.{Bool, cond}
 use mathlib.Core.List.{List, [], _∷_, _++_}
 use Prim.Native.Nat.{ℕ}
@@ -10,7 +10,7 @@ use Rattle.points.specs.declared.HammerState.{HammerState}
 use Rattle.points.specs.declared.HammerState.the-variants.{Resting, Flying}
 use Rattle.sample.specs.declared.Motion.{Motion}
 use Rattle.score.specs.declared.Piano.{Piano}
-use Rattle.session_words.specs.Layout.{contactOffset, peakOffset, handDampedOffset, dampersOffset, pedalOffset, motionOffset}
+use Rattle.session_words.specs.Layout.{peakOffset, handDampedOffset, dampersOffset, contactsOffset, pedalOffset, motionOffset}
 use Rattle.session_words.specs.Items.{joined, itemsOf}
 
 abbrev pub bitOf : Bool → ℕ
@@ -28,6 +28,12 @@ floatWord x = toBits binary64 x ∷ []
 abbrev pub floatOf : List ℕ → Float
 floatOf w = ofBits binary64 (getD w 0 0)
 
+abbrev pub countWord : ℕ → List ℕ
+countWord n = n ∷ []
+
+abbrev pub countOf : List ℕ → ℕ
+countOf w = getD w 0 0
+
 unfoldable pub hammerWords : HammerState → List ℕ
 hammerWords Resting = 0 ∷ 0 ∷ 0 ∷ 0 ∷ []
 hammerWords (Flying k y v) = 1 ∷ k ∷ toBits binary64 y ∷ toBits binary64 v ∷ []
@@ -37,15 +43,16 @@ hammerFrom w = cond (eqb (getD w 0 0) 1) (Flying (getD w 1 0) (ofBits binary64 (
 
 unfoldable pub motionWords : Motion → List ℕ
 unfolding hammerWords
-motionWords m = hammerWords (m .hammer) ++ (m .«contact_samples» ∷ toBits binary64 (m .«peak_force») ∷ [])
+motionWords m = hammerWords (m .hammer) ++ (toBits binary64 (m .«peak_force») ∷ [])
 
 unfoldable pub motionOf : List ℕ → Motion
 unfolding hammerFrom
-motionOf w = record { hammer = hammerFrom w; «contact_samples» = getD w contactOffset 0; «peak_force» = ofBits binary64 (getD w peakOffset 0) }
+motionOf w = record { hammer = hammerFrom w; «peak_force» = ofBits binary64 (getD w peakOffset 0) }
 
 unfoldable pub pianoWords : Piano → List ℕ
 pianoWords p =
-    joined flagWord (p .held) ++ (joined flagWord (p .«hand_damped») ++ (joined floatWord (p .«damper_r») ++ (bitOf (p .pedal) ∷ motionWords (p .motion))))
+    joined flagWord (p .held)
+    ++ (joined flagWord (p .«hand_damped») ++ (joined floatWord (p .«damper_r») ++ (joined countWord (p .«contact_samples») ++ (bitOf (p .pedal) ∷ motionWords (p .motion)))))
 
 unfoldable pub pianoOf : List ℕ → Piano
 pianoOf w =
@@ -53,6 +60,7 @@ pianoOf w =
       held = itemsOf flagOf 1 16 w;
       «hand_damped» = itemsOf flagOf 1 16 (drop handDampedOffset w);
       «damper_r» = itemsOf floatOf 1 16 (drop dampersOffset w);
+      «contact_samples» = itemsOf countOf 1 16 (drop contactsOffset w);
       pedal = flagOf (drop pedalOffset w);
       motion = motionOf (drop motionOffset w);
     }

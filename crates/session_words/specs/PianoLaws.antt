@@ -15,9 +15,9 @@ use Rattle.points.specs.declared.HammerState.{HammerState}
 use Rattle.points.specs.declared.HammerState.the-variants.{Resting, Flying}
 use Rattle.sample.specs.declared.Motion.{Motion}
 use Rattle.score.specs.declared.Piano.{Piano}
-use Rattle.session_words.specs.Layout.{hammerSize, motionSize, peakOffset, handDampedOffset, dampersOffset, pedalOffset, motionOffset, pianoSize}
+use Rattle.session_words.specs.Layout.{hammerSize, motionSize, peakOffset, handDampedOffset, dampersOffset, contactsOffset, pedalOffset, motionOffset, pianoSize}
 use Rattle.session_words.specs.Items.{joined, itemsOf, AllOf, joined-length, items-length, items-back, all-items}
-use Rattle.session_words.specs.Piano.{bitOf, flagWord, flagOf, floatWord, floatOf, hammerWords, hammerFrom, motionWords, motionOf, pianoWords, pianoOf}
+use Rattle.session_words.specs.Piano.{bitOf, flagWord, flagOf, floatWord, floatOf, countWord, countOf, hammerWords, hammerFrom, motionWords, motionOf, pianoWords, pianoOf}
 
 -- nothing is asked
 abbrev pub Any : {A : Type 0} → A → Type 0
@@ -35,6 +35,7 @@ pub record FitPiano (p : Piano) : Type 0 where
   pub heldLong : length (p .held) ≡ 16
   pub handLong : length (p .«hand_damped») ≡ 16
   pub damperLong : length (p .«damper_r») ≡ 16
+  pub contactsLong : length (p .«contact_samples») ≡ 16
   pub dampers : AllOf Fit (p .«damper_r»)
   pub motion : FitMotion (p .motion)
 
@@ -52,11 +53,17 @@ flag-back false h r = refl
 pub float-back : (x : Float) → Fit x → (r : List ℕ) → floatOf (floatWord x ++ r) ≡ x
 float-back x h r = ofBits-toBits binary64 x h
 
+pub count-back : (n : ℕ) → Any n → (r : List ℕ) → countOf (countWord n ++ r) ≡ n
+count-back n h r = refl
+
 pub flags-length : (xs : List Bool) → length (joined flagWord xs) ≡ length xs
 flags-length xs = joined-length Any flagWord 1 (λ x h. refl) xs (all-any xs) ∙ omega arith
 
 pub floats-length : (xs : List Float) → length (joined floatWord xs) ≡ length xs
 floats-length xs = joined-length Any floatWord 1 (λ x h. refl) xs (all-any xs) ∙ omega arith
+
+pub counts-length : (xs : List ℕ) → length (joined countWord xs) ≡ length xs
+counts-length xs = joined-length Any countWord 1 (λ x h. refl) xs (all-any xs) ∙ omega arith
 
 pub hammer-length : (h : HammerState) → length (hammerWords h) ≡ hammerSize
 unfolding hammerWords
@@ -65,17 +72,17 @@ hammer-length (Flying k y v) = refl
 
 motion-length : (m : Motion) → length (motionWords m) ≡ motionSize
 unfolding motionWords
-motion-length m = length-append (hammerWords (m .hammer)) _ ∙ ap (λ (n : ℕ). n + 2) (hammer-length (m .hammer))
+motion-length m = length-append (hammerWords (m .hammer)) _ ∙ ap (λ (n : ℕ). n + 1) (hammer-length (m .hammer))
 
-module _ (k : ℕ) (p : Float) (r : List ℕ) (fp : Fit p) where
-  motion-from : (h : HammerState) → FitHammer h → motionOf ((hammerWords h ++ (k ∷ toBits binary64 p ∷ [])) ++ r) ≡ record { hammer = h; «contact_samples» = k; «peak_force» = p }
+module _ (p : Float) (r : List ℕ) (fp : Fit p) where
+  motion-from : (h : HammerState) → FitHammer h → motionOf ((hammerWords h ++ (toBits binary64 p ∷ [])) ++ r) ≡ record { hammer = h; «peak_force» = p }
   unfolding motionOf hammerFrom hammerWords FitHammer
   motion-from Resting f = rw (ofBits-toBits binary64 p fp)
   motion-from (Flying i y v) f = rw (ofBits-toBits binary64 p fp, ofBits-toBits binary64 y (f .0), ofBits-toBits binary64 v (f .1))
 
 motion-back : (m : Motion) → FitMotion m → (r : List ℕ) → motionOf (motionWords m ++ r) ≡ m
 unfolding motionWords
-motion-back m f r = motion-from (m .«contact_samples») (m .«peak_force») r (f .peak) (m .hammer) (f .hammer)
+motion-back m f r = motion-from (m .«peak_force») r (f .peak) (m .hammer) (f .hammer)
 
 -- ---- the piano
 
@@ -86,17 +93,21 @@ module _ (p : Piano) (f : FitPiano p) where
       let x1 = joined flagWord (p .held) in
       let x2 = joined flagWord (p .«hand_damped») in
       let x3 = joined floatWord (p .«damper_r») in
-      let x4 = bitOf (p .pedal) ∷ motionWords (p .motion) in
+      let x4 = joined countWord (p .«contact_samples») in
+      let x5 = bitOf (p .pedal) ∷ motionWords (p .motion) in
       let n1 = flags-length (p .held) in
       let n2 = flags-length (p .«hand_damped») in
       let n3 = floats-length (p .«damper_r») in
-      let n4 = motion-length (p .motion) in
+      let n4 = counts-length (p .«contact_samples») in
+      let n5 = motion-length (p .motion) in
       let m1 = f .heldLong in
       let m2 = f .handLong in
       let m3 = f .damperLong in
-      let l3 = length-append x3 x4 in
-      let l2 = length-append x2 (x3 ++ x4) in
-      let l1 = length-append x1 (x2 ++ (x3 ++ x4)) in
+      let m4 = f .contactsLong in
+      let l4 = length-append x4 x5 in
+      let l3 = length-append x3 (x4 ++ x5) in
+      let l2 = length-append x2 (x3 ++ (x4 ++ x5)) in
+      let l1 = length-append x1 (x2 ++ (x3 ++ (x4 ++ x5))) in
       omega arith
 
   -- THE LAW: a piano is read back from its words
@@ -106,19 +117,24 @@ module _ (p : Piano) (f : FitPiano p) where
       let x1 = joined flagWord (p .held) in
       let x2 = joined flagWord (p .«hand_damped») in
       let x3 = joined floatWord (p .«damper_r») in
+      let x4 = joined countWord (p .«contact_samples») in
       let m = motionWords (p .motion) in
       let b = bitOf (p .pedal) in
-      let t3 = b ∷ (m ++ r) in
+      let t4 = b ∷ (m ++ r) in
+      let t3 = x4 ++ t4 in
       let t2 = x3 ++ t3 in
       let t1 = x2 ++ t2 in
-      let w = (x1 ++ (x2 ++ (x3 ++ (b ∷ m)))) ++ r in
+      let w = (x1 ++ (x2 ++ (x3 ++ (x4 ++ (b ∷ m))))) ++ r in
       let e0 : w ≡ x1 ++ t1 =
-      append-assoc x1 (x2 ++ (x3 ++ (b ∷ m))) r
-      ∙ ap (λ (l : List ℕ). x1 ++ l) (append-assoc x2 (x3 ++ (b ∷ m)) r ∙ ap (λ (l : List ℕ). x2 ++ l) (append-assoc x3 (b ∷ m) r)) in
+      append-assoc x1 (x2 ++ (x3 ++ (x4 ++ (b ∷ m)))) r
+      ∙ ap (λ (l : List ℕ). x1 ++ l)
+      (append-assoc x2 (x3 ++ (x4 ++ (b ∷ m))) r
+      ∙ ap (λ (l : List ℕ). x2 ++ l) (append-assoc x3 (x4 ++ (b ∷ m)) r ∙ ap (λ (l : List ℕ). x3 ++ l) (append-assoc x4 (b ∷ m) r))) in
       let e1 : drop handDampedOffset w ≡ t1 = ap (drop 16) e0 ∙ drop-at x1 t1 16 (flags-length (p .held) ∙ f .heldLong) in
       let e2 : drop dampersOffset w ≡ t2 = sym (drop-drop 16 handDampedOffset w) ∙ ap (drop 16) e1 ∙ drop-at x2 t2 16 (flags-length (p .«hand_damped») ∙ f .handLong) in
-      let e3 : drop pedalOffset w ≡ t3 = sym (drop-drop 16 dampersOffset w) ∙ ap (drop 16) e2 ∙ drop-at x3 t3 16 (floats-length (p .«damper_r») ∙ f .damperLong) in
-      let e4 : drop motionOffset w ≡ m ++ r = sym (drop-drop 1 pedalOffset w) ∙ ap (drop 1) e3 in
+      let e3 : drop contactsOffset w ≡ t3 = sym (drop-drop 16 dampersOffset w) ∙ ap (drop 16) e2 ∙ drop-at x3 t3 16 (floats-length (p .«damper_r») ∙ f .damperLong) in
+      let e4 : drop pedalOffset w ≡ t4 = sym (drop-drop 16 contactsOffset w) ∙ ap (drop 16) e3 ∙ drop-at x4 t4 16 (counts-length (p .«contact_samples») ∙ f .contactsLong) in
+      let e5 : drop motionOffset w ≡ m ++ r = sym (drop-drop 1 pedalOffset w) ∙ ap (drop 1) e4 in
       let h1 : itemsOf flagOf 1 16 w ≡ p .held =
       ap (itemsOf flagOf 1 16) e0 ∙ ap (λ (n : ℕ). itemsOf flagOf 1 n (x1 ++ t1)) (sym (f .heldLong))
       ∙ items-back Any flagWord 1 (λ x h. refl) flagOf flag-back (p .held) (all-any (p .held)) t1 in
@@ -128,9 +144,12 @@ module _ (p : Piano) (f : FitPiano p) where
       let h3 : itemsOf floatOf 1 16 (drop dampersOffset w) ≡ p .«damper_r» =
       ap (itemsOf floatOf 1 16) e2 ∙ ap (λ (n : ℕ). itemsOf floatOf 1 n (x3 ++ t3)) (sym (f .damperLong))
       ∙ items-back Fit floatWord 1 (λ x h. refl) floatOf float-back (p .«damper_r») (f .dampers) t3 in
-      let h4 : flagOf (drop pedalOffset w) ≡ p .pedal = ap flagOf e3 ∙ flag-back (p .pedal) tt (m ++ r) in
-      let h5 : motionOf (drop motionOffset w) ≡ p .motion = ap motionOf e4 ∙ motion-back (p .motion) (f .motion) r in
-      rw (h1, h2, h3, h4, h5)
+      let h4 : itemsOf countOf 1 16 (drop contactsOffset w) ≡ p .«contact_samples» =
+      ap (itemsOf countOf 1 16) e3 ∙ ap (λ (n : ℕ). itemsOf countOf 1 n (x4 ++ t4)) (sym (f .contactsLong))
+      ∙ items-back Any countWord 1 (λ x h. refl) countOf count-back (p .«contact_samples») (all-any (p .«contact_samples»)) t4 in
+      let h5 : flagOf (drop pedalOffset w) ≡ p .pedal = ap flagOf e4 ∙ flag-back (p .pedal) tt (m ++ r) in
+      let h6 : motionOf (drop motionOffset w) ≡ p .motion = ap motionOf e5 ∙ motion-back (p .motion) (f .motion) r in
+      rw (h1, h2, h3, h4, h5, h6)
 
 -- ---- whatever the words are, what is read from them is a value of the type
 
@@ -147,6 +166,7 @@ fit-piano-of w =
       heldLong = items-length flagOf 1 16 w;
       handLong = items-length flagOf 1 16 (drop handDampedOffset w);
       damperLong = items-length floatOf 1 16 (drop dampersOffset w);
+      contactsLong = items-length countOf 1 16 (drop contactsOffset w);
       dampers = all-items Fit floatOf (λ v. ofBits-fits binary64 (getD v 0 0)) 1 16 (drop dampersOffset w);
       motion = record {
         hammer = fit-hammer-of (eqb (getD m 0 0) 1) (getD m 1 0) (getD m 2 0) (getD m 3 0);

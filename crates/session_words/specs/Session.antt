@@ -1,5 +1,5 @@
 -- A session as words: t and the number of events; 64 events (position; kind 0 a strike, 1 a release, 2 the pedal, 3 a hand damp; key, or 1 for a pedal that is down; a strike's velocity,
--- else 0); four cues (1 where it is kept, position, its piano); the piano now: 541 in all, as Layout counts them. Definitions only: assumes nothing.
+-- else 0); four cues (1 where it is kept, position, its piano); the piano now: 616 in all, as Layout counts them. Definitions only: assumes nothing.
 use mathlib.Core.Path.{_≡_}
 use mathlib.Core.Bool.{Bool, true, false, cond, _&&_}
 use mathlib.Core.List.{List, [], _∷_, _++_}

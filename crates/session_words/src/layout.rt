@@ -1,7 +1,5 @@
 // How many words each part of a session has, and where it stands in the part that holds it, as specs/Layout says it.
-pub const CONTACT_OFFSET: usize = 4;
-
-pub const PEAK_OFFSET: usize = CONTACT_OFFSET + 1;
+pub const PEAK_OFFSET: usize = 4;
 
 const MOTION_SIZE: usize = PEAK_OFFSET + 1;
 
@@ -9,7 +7,9 @@ pub const HAND_DAMPED_OFFSET: usize = 16;
 
 pub const DAMPERS_OFFSET: usize = HAND_DAMPED_OFFSET + 16;
 
-pub const PEDAL_OFFSET: usize = DAMPERS_OFFSET + 16;
+pub const CONTACTS_OFFSET: usize = DAMPERS_OFFSET + 16;
+
+pub const PEDAL_OFFSET: usize = CONTACTS_OFFSET + 16;
 
 pub const MOTION_OFFSET: usize = PEDAL_OFFSET + 1;
 

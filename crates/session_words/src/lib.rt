@@ -1,4 +1,4 @@
-// The session's record as 541 words in a lent slice, so that it can cross to C and Rust. What is written is read back, and words that no session has are told apart.
+// The session's record as 616 words in a lent slice, so that it can cross to C and Rust. What is written is read back, and words that no session has are told apart.
 mod cue;
 mod event;
 mod layout;

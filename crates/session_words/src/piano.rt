@@ -5,8 +5,8 @@ ghost use lib.ListN.{length, drop};
 ghost use lib.Seq.{sets};
 ghost use Rattle.session_words.specs.Layout.{hammerSize, motionSize, pianoSize};
 ghost use Rattle.session_words.specs.Items.{joined, itemsOf};
-ghost use Rattle.session_words.specs.Piano.{flagWord, flagOf, floatWord, floatOf, hammerWords, hammerFrom, motionWords, motionOf, pianoWords, pianoOf};
-use crate::layout::CONTACT_OFFSET;
+ghost use Rattle.session_words.specs.Piano.{flagWord, flagOf, floatWord, floatOf, countWord, countOf, hammerWords, hammerFrom, motionWords, motionOf, pianoWords, pianoOf};
+use crate::layout::CONTACTS_OFFSET;
 use crate::layout::DAMPERS_OFFSET;
 use crate::layout::HAND_DAMPED_OFFSET;
 use crate::layout::MOTION_OFFSET;
@@ -60,6 +60,26 @@ fn floats_at(words: &[u64], at: usize) -> [f64; 16]
     floats
 }
 
+fn put_counts(words: &mut [u64], at: usize, counts: [u64; 16])
+    requires { ⌜ at + 16 ≤ length (now words) ⌝ }
+    ensures { λ _. ⌜ now (words .exit) ≡ sets (now (words .entry)) at (joined countWord counts) ⌝ }
+{
+    for i in 0usize..16usize {
+        put_word(words, at + i, counts[i]);
+    }
+}
+
+fn counts_at(words: &[u64], at: usize) -> [u64; 16]
+    requires { ⌜ at + 16 ≤ length (now words) ⌝ }
+    ensures { λ r. ⌜ r ≡ itemsOf countOf 1 16 (drop at (now (words .entry))) ⌝ }
+{
+    let mut counts = [0u64; 16];
+    for i in 0usize..16usize {
+        counts[i] = word_at(words, at + i);
+    }
+    counts
+}
+
 fn put_hammer(words: &mut [u64], at: usize, hammer: HammerState)
     requires { ⌜ at + hammerSize ≤ length (now words) ⌝ }
     ensures { λ _. ⌜ now (words .exit) ≡ sets (now (words .entry)) at (hammerWords hammer) ⌝ }
@@ -111,7 +131,6 @@ fn put_motion(words: &mut [u64], at: usize, motion: Motion)
 {
     let hammer = motion.hammer;
     put_hammer(words, at, hammer);
-    put_word(words, at + CONTACT_OFFSET, motion.contact_samples);
     put_word(
         words,
         at + PEAK_OFFSET,
@@ -124,13 +143,8 @@ fn motion_at(words: &[u64], at: usize) -> Motion
     ensures { λ r. ⌜ r ≡ motionOf (drop at (now (words .entry))) ⌝ }
 {
     let hammer = hammer_at(words, at);
-    let contact_samples = word_at(words, at + CONTACT_OFFSET);
     let peak_force = little_endian::float_of(word_at(words, at + PEAK_OFFSET));
-    Motion {
-        hammer,
-        contact_samples,
-        peak_force,
-    }
+    Motion { hammer, peak_force }
 }
 
 pub fn put_piano(words: &mut [u64], at: usize, piano: Piano)
@@ -140,10 +154,12 @@ pub fn put_piano(words: &mut [u64], at: usize, piano: Piano)
     let held = piano.held;
     let hand_damped = piano.hand_damped;
     let damper_r = piano.damper_r;
+    let contact_samples = piano.contact_samples;
     let motion = piano.motion;
     put_flags(words, at, held);
     put_flags(words, at + HAND_DAMPED_OFFSET, hand_damped);
     put_floats(words, at + DAMPERS_OFFSET, damper_r);
+    put_counts(words, at + CONTACTS_OFFSET, contact_samples);
     put_word(words, at + PEDAL_OFFSET, bit_of(piano.pedal));
     put_motion(words, at + MOTION_OFFSET, motion);
 }
@@ -155,12 +171,14 @@ pub fn piano_at(words: &[u64], at: usize) -> Piano
     let held = flags_at(words, at);
     let hand_damped = flags_at(words, at + HAND_DAMPED_OFFSET);
     let damper_r = floats_at(words, at + DAMPERS_OFFSET);
+    let contact_samples = counts_at(words, at + CONTACTS_OFFSET);
     let pedal = word_at(words, at + PEDAL_OFFSET) == 1;
     let motion = motion_at(words, at + MOTION_OFFSET);
     Piano {
         held,
         hand_damped,
         damper_r,
+        contact_samples,
         pedal,
         motion,
     }

@@ -170,14 +170,33 @@ fn try_orders(i: Instrument, s: Session) {
     try_ahead(i, s, 3);
 }
 
-// The hammer and the count of contacts, in the piano now.
+// The hammer and the counts of contacts, in the piano now.
 fn try_pianos(i: Instrument, s: Session) {
     try_calls(
         b"a hammer on a key not there",
         i,
         records::with_hammer(s, i.key_count),
     );
-    try_calls(b"a contact count above t", i, records::with_contacts(s, 11));
+    try_calls(
+        b"a contact count above t",
+        i,
+        records::with_contacts(s, 11, 0, 0),
+    );
+    try_calls(
+        b"two contact counts above t together",
+        i,
+        records::with_contacts(s, 5, 6, 0),
+    );
+    try_calls(
+        b"contact counts whose sum wraps",
+        i,
+        records::with_contacts(s, records::HALF, records::HALF, 0),
+    );
+    try_calls(
+        b"a contact count of all a word holds",
+        i,
+        records::with_contacts(s, 1, records::MOST, 0),
+    );
 }
 
 fn try_cues(i: Instrument, s: Session) {
@@ -194,9 +213,14 @@ fn try_cues(i: Instrument, s: Session) {
         records::with_cue_hammer(s, 2, i.key_count),
     );
     try_calls(
-        b"a cue's contact count above it",
+        b"a cue's contact counts above it together, not above t",
         i,
-        records::with_cue_contacts(s, 2, 7),
+        records::with_cue_contacts(s, 2, 4, 3, 0),
+    );
+    try_calls(
+        b"a cue's contact counts whose sum wraps",
+        i,
+        records::with_cue_contacts(s, 2, records::HALF, records::HALF, 0),
     );
 }
 
@@ -223,7 +247,27 @@ fn try_right(i: Instrument, s: Session) {
     try_calls(b"floats of the state", i, records::with_wild_floats(s));
     try_calls(b"events past the count", i, records::with_wild_events(s));
     try_calls(b"slots that keep nothing", i, records::with_wild_slots(s));
-    try_calls(b"a contact count of t", i, records::with_contacts(s, 10));
+    try_calls(
+        b"contact counts of t together",
+        i,
+        records::with_contacts(s, 4, 6, 0),
+    );
+    try_calls(
+        b"a cue's contact counts of its position together",
+        i,
+        records::with_cue_contacts(s, 2, 3, 3, 0),
+    );
+    try_calls(
+        b"contact counts past the keys",
+        i,
+        records::with_cue_contacts(
+            records::with_contacts(s, 4, 6, records::MOST),
+            2,
+            3,
+            3,
+            records::MOST,
+        ),
+    );
     try_calls(b"a hammer on the last key", i, records::with_hammer(s, 7));
     try_calls(
         b"a strike, then a release",

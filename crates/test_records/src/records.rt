@@ -8,6 +8,11 @@ use score::TimedEvent;
 use session_cues::Cue;
 use session_record::Session;
 
+// The greatest count that a word holds; two halves of what lies past it add up to 0 where a sum wraps.
+pub const MOST: u64 = 0xffff_ffff_ffff_ffff;
+
+pub const HALF: u64 = 0x8000_0000_0000_0000;
+
 pub fn at(session: Session, t: u64) -> Session {
     let mut s = session;
     s.t = t;
@@ -66,24 +71,24 @@ fn with_motion(piano: Piano, motion: Motion) -> Piano {
     let held = piano.held;
     let hand_damped = piano.hand_damped;
     let damper_r = piano.damper_r;
+    let contact_samples = piano.contact_samples;
     Piano {
         held,
         hand_damped,
         damper_r,
+        contact_samples,
         pedal: piano.pedal,
         motion,
     }
 }
 
-fn contacts(piano: Piano, contact_samples: u64) -> Piano {
-    let before = piano.motion;
-    let hammer = before.hammer;
-    let motion = Motion {
-        hammer,
-        contact_samples,
-        peak_force: before.peak_force,
-    };
-    with_motion(piano, motion)
+// The first key's contact samples, the third's, and those of a place past the keys of the embedded instrument.
+fn contacts(piano: Piano, first: u64, third: u64, past: u64) -> Piano {
+    let mut p = piano;
+    p.contact_samples[0] = first;
+    p.contact_samples[2] = third;
+    p.contact_samples[8] = past;
+    p
 }
 
 fn hammer_on(piano: Piano, key_index: usize) -> Piano {
@@ -94,7 +99,6 @@ fn hammer_on(piano: Piano, key_index: usize) -> Piano {
             y_h: 0.0,
             v_h: 1.0,
         },
-        contact_samples: before.contact_samples,
         peak_force: before.peak_force,
     };
     with_motion(piano, motion)
@@ -106,9 +110,9 @@ pub fn with_hammer(session: Session, key_index: usize) -> Session {
     s
 }
 
-pub fn with_contacts(session: Session, contact_samples: u64) -> Session {
+pub fn with_contacts(session: Session, first: u64, third: u64, past: u64) -> Session {
     let mut s = session;
-    s.piano = contacts(session.piano, contact_samples);
+    s.piano = contacts(session.piano, first, third, past);
     s
 }
 
@@ -146,8 +150,15 @@ pub fn with_cue_hammer(session: Session, slot: usize, key_index: usize) -> Sessi
     )
 }
 
-pub fn with_cue_contacts(session: Session, slot: usize, contact_samples: u64) -> Session {
-    let piano = contacts(session.piano, contact_samples);
+// A cue at 6 with these.
+pub fn with_cue_contacts(
+    session: Session,
+    slot: usize,
+    first: u64,
+    third: u64,
+    past: u64,
+) -> Session {
+    let piano = contacts(session.piano, first, third, past);
     with_slot(
         session,
         slot,
@@ -169,13 +180,13 @@ pub fn with_wild_floats(session: Session) -> Session {
             y_h: 0.0 / 0.0,
             v_h: 1.0 / 0.0,
         },
-        contact_samples: 3,
         peak_force: -1.0 / 0.0,
     };
     let piano = Piano {
         held: [true; 16],
         hand_damped: [true; 16],
         damper_r: [0.0 / 0.0; 16],
+        contact_samples: [1; 16],
         pedal: before.pedal,
         motion,
     };
@@ -198,7 +209,7 @@ pub fn with_wild_events(session: Session) -> Session {
 }
 
 pub fn with_wild_slots(session: Session) -> Session {
-    let piano = hammer_on(contacts(session.piano, 0xffff_ffff_ffff_ffff), 99);
+    let piano = hammer_on(contacts(session.piano, MOST, MOST, MOST), 99);
     let wild = Cue {
         kept: false,
         position: 0xffff_ffff_ffff_ffff,

@@ -13,7 +13,7 @@ ghost use lib.ListN.{length};
 pub const LONGEST: usize = 4096;
 
 // The words of a block before its samples: how many samples and forces, the small state, a digest of the cells.
-const HEAD: usize = 28;
+const HEAD: usize = 44;
 
 pub enum Verdict {
     Same,
@@ -42,12 +42,12 @@ pub fn silence(file_length: usize) -> Standing {
         damper_r: [0.0; 16],
         held: [false; 16],
         hand_damped: [false; 16],
+        contact_samples: [0; 16],
         pedal: false,
         flies: false,
         key_index: 0,
         y_h: 0.0,
         v_h: 0.0,
-        contact_samples: 0,
         peak_force: 0.0,
         forces: 0,
     };
@@ -167,17 +167,32 @@ fn mask(flags: &[bool; 16]) -> u64 {
     bits
 }
 
-// The small state by its words: contact_samples, peak_force, the hammer's four, pedal, held, hand_damped, damper_r.
+// The keys' counts, each beside its own word, and their sum, which is the Rust's one count.
+fn same_counts(counts: &[u64; 16], sum: u64, words: &[u64]) -> bool {
+    if words.len() != 16 {
+        return false;
+    }
+    let mut same = true;
+    let mut left = sum;
+    for i in 0usize..16usize {
+        same = same & (counts[i] == words[i]);
+        left = std::num::wrapping_sub_u64(left, counts[i]);
+    }
+    same & (left == 0)
+}
+
+// The small state by its words: contact_samples, peak_force, the hammer's four, pedal, held, hand_damped, damper_r, each key's contact_samples.
 fn same_state(small: Small, words: &[u64]) -> bool {
-    if words.len() != 25 {
+    if words.len() != 41 {
         return false;
     }
     let damper_r = small.damper_r;
+    let contact_samples = small.contact_samples;
     let held = small.held;
     let hand_damped = small.hand_damped;
     let flies = if small.flies { 1u64 } else { 0u64 };
     let pedal = if small.pedal { 1u64 } else { 0u64 };
-    small.contact_samples == words[0]
+    same_counts(&contact_samples, words[0], &words[25..])
         && alike(small.peak_force, words[1])
         && flies == words[2]
         && small.key_index as u64 == words[3]
@@ -186,7 +201,7 @@ fn same_state(small: Small, words: &[u64]) -> bool {
         && pedal == words[6]
         && mask(&held) == words[7]
         && mask(&hand_damped) == words[8]
-        && all_alike(&damper_r, &words[9..])
+        && all_alike(&damper_r, &words[9..25])
 }
 
 // Samples and forces one by one, or by a digest of each.
@@ -252,7 +267,7 @@ fn judge_in(
     out: &mut [f64],
     trace: &mut [f64],
 ) -> Judged
-    requires { ⌜ 28 ≤ length (now words) ⌝ }
+    requires { ⌜ 44 ≤ length (now words) ⌝ }
     requires { ⌜ length (now out) ≡ length (now trace) ⌝ }
 {
     let m = out.len() as u64;
@@ -263,9 +278,9 @@ fn judge_in(
         return verdict_on(standing, small, m, false);
     }
     let same = words[1] == k as u64
-        && same_state(small, &words[2..27])
-        && digest(&part[..w]) == words[27]
-        && same_sound(out, &trace[..k], &words[28..], digested);
+        && same_state(small, &words[2..43])
+        && digest(&part[..w]) == words[43]
+        && same_sound(out, &trace[..k], &words[44..], digested);
     verdict_on(standing, small, m, same)
 }
 

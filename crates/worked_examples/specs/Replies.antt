@@ -16,7 +16,7 @@ use Rattle.machine.specs.Machine.{Machine, Call, Reply, opened, startOf, replie
 -- go's number, an edit's t and number dropped; a refusal shows its number alone
 abbrev pub shown : Reply → List ℕ
 shown (Reply.refused n) = n ∷ []
-shown (Reply.played k s f) = []
+shown (Reply.played k c s f) = []
 shown Reply.cued = []
 shown (Reply.went n) = n ∷ []
 shown (Reply.edited t n) = t ∷ n ∷ []

@@ -57,16 +57,27 @@ pub fn bits(floats: &[f64]) -> Vec<u64> {
     floats.iter().map(|x| x.to_bits()).collect()
 }
 
-/// What a play of `count` gives: the bits of its samples and of its forces, and the count of contacts behind it.
+/// What a play of `count` gives: the bits of its samples and of its forces, the contact samples that it tells, and each key's
+/// behind it.
 #[derive(Debug, PartialEq)]
 pub struct Played {
     pub samples: Vec<u64>,
     pub forces: Vec<u64>,
     pub contacts: u64,
+    pub key_contacts: Vec<u64>,
 }
 
+/// Each key's contact samples, in the file's order.
+pub fn key_contacts(console: &Console) -> Vec<u64> {
+    console.key_contacts().map(|(_, count)| count).collect()
+}
+
+/// Plays `count`; the sum that the play tells is that of its keys.
 pub fn play(console: &mut Console, count: usize) -> Result<Played, Refusal> {
     let (mut out, mut trace) = (vec![0.0; count], vec![0.0; count]);
-    let forces = console.play(&mut out, &mut trace)?;
-    Ok(Played { samples: bits(&out), forces: bits(&trace[..forces]), contacts: console.contact_samples() })
+    let gingerfile::Played { forces, contact_samples } = console.play(&mut out, &mut trace)?;
+    let key_contacts = key_contacts(console);
+    assert_eq!(contact_samples, key_contacts.iter().sum());
+    assert_eq!(contact_samples, console.contact_samples());
+    Ok(Played { samples: bits(&out), forces: bits(&trace[..forces]), contacts: contact_samples, key_contacts })
 }

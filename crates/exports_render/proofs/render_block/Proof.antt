@@ -1,11 +1,10 @@
 -- `exports_render::render_block` is safe: its tests give what the renderer requires. Assumes nothing.
-use mathlib.Core.Path.{_≡_, sym, _∙_}
-use Prim.Native.Nat.{_≤_}
+use mathlib.Core.Path.{sym, _∙_}
 use native.Mathlib.Omega.{arith}
 use borrow.Author.Tests.{not-false}
-use Rattle.instrument.specs.Work.{partCells}
 use Rattle.instrument.specs.WorkLaws.{part-counted}
 use Rattle.render.specs.Work.{valid-renderable}
+use Rattle.session_cues.specs.Laws.{piano-parts}
 use borrow.Author.Needs.{needs}
 use Rattle.exports_render.proofs.render_block.Statement.{statement}
 use Rattle.exports_render.proofs.render_block.Tie as tie
@@ -28,6 +27,12 @@ returns-2 c = search needs
 returns-3 : tie.Need-returns-3
 returns-3 c = search needs
 
+piano-of-requires : tie.Need-piano-of-requires
+piano-of-requires c κs = search needs
+
+is-sound-piano-requires : tie.Need-is-sound-piano-requires
+is-sound-piano-requires c κs = search needs
+
 returns-4 : tie.Need-returns-4
 returns-4 c = search needs
 
@@ -40,25 +45,25 @@ returns-6 c = search needs
 score-of-requires : tie.Need-score-of-requires
 score-of-requires c κs = search needs
 
-piano-of-requires : tie.Need-piano-of-requires
-piano-of-requires c κs = search needs
-
 render-requires : tie.Need-render-requires
 render-requires c κs =
-    let piano = c .before .before .before .before in
-    let score = piano .before in
-    let timed = score .before .before in
-    let room = timed .before .before .before in
+    let score = c .before .before .before .before in
+    let shorter = score .before in
+    let sooner = shorter .before in
+    let sound = sooner .before in
+    let tested = sound .before in
+    let room = tested .before .before in
     let cells = room .before .before in
     let checked = cells .before in
     let valid = checked .before .before in
     let i = valid .before .before .read .result .instrument in
     let passes = sym (valid .is-valid .ensures) ∙ not-false _ (checked .before .if1 .left) in
-    let w = sym (checked .part-cells .ensures .0 ∙ part-counted i passes) in (
+    let w = sym (checked .part-cells .ensures .0 ∙ part-counted i passes) in
+    let piano = piano-parts _ _ _ (sym (tested .is-sound-piano .ensures) ∙ not-false _ (sound .if4 .left)) in (
       valid-renderable i passes _ _ (omega (arith, w, cells .if2 .left)) (room .if3 .left),
       (
         score .score-of .ensures,
-        (omega (arith, piano .piano-of .ensures, timed .before .if4 .left), omega (arith, timed .if5 .left, score .before .if6 .left)),
+        (record { contact = piano .0; hammer = piano .1 }, omega (arith, sooner .if5 .left, shorter .if6 .left)),
       ),
     )
 
@@ -90,11 +95,12 @@ render-block-spec =
     part-cells-requires
     returns-2
     returns-3
+    piano-of-requires
+    is-sound-piano-requires
     returns-4
     returns-5
     returns-6
     score-of-requires
-    piano-of-requires
     render-requires
     small-of-requires
     same-length

@@ -10,6 +10,8 @@ use lib.ListN.{length, getD}
 use Rattle.strings.specs.Strings.{Indexed}
 use Rattle.sample.specs.Sample.{Step, modelAt, stepOf}
 use Rattle.sample.specs.Laws.{ready-kept}
+use Rattle.score.specs.Contacts.{contactsOf}
+use Rattle.score.specs.Laws.{can-count}
 use Rattle.render.specs.Render.{Advanced, InRange, stepped, renderingOf}
 use Rattle.render.proofs.Runs.{advanced-lengths, advanced-start, advanced-then, runOf, one-turn}
 use Rattle.render.proofs.play_stretch.Statement.{statement}
@@ -19,26 +21,32 @@ abbrev downs : List Bool → ℕ → Bool
 downs down k = getD down k false
 
 abbrev Inv-loop : tie.InvT-loop
-Inv-loop part₀ scratch₀ out₀ trace₀ table lengths coefficients setup down piano held hand-damped damper-r₀ motion₀ done₀ pushed₀ t stop indices₀
-    part scratch out trace damper-r motion done pushed indices =
+Inv-loop part₀ scratch₀ out₀ trace₀ table lengths coefficients setup down piano held hand-damped damper-r₀ counts₀ motion₀ done₀ pushed₀ t stop indices₀
+    part scratch out trace damper-r counts motion done pushed indices =
     Advanced (stepped (modelAt setup table lengths coefficients) (downs down)) t
-    (renderingOf (runOf piano damper-r₀ motion₀ done₀ pushed₀) part₀ out₀ trace₀) (renderingOf (runOf piano damper-r motion done pushed) part out trace)
-    × InRange (runOf piano damper-r motion done pushed) t stop × (length part ≡ length part₀) × (length scratch ≡ length scratch₀)
+    (renderingOf (runOf piano damper-r₀ counts₀ motion₀ done₀ pushed₀) part₀ out₀ trace₀) (renderingOf (runOf piano damper-r counts motion done pushed) part out trace)
+    × InRange (setup .keys) (runOf piano damper-r counts motion done pushed) t stop × (length part ≡ length part₀) × (length scratch ≡ length scratch₀)
     × Indexed lengths coefficients indices (setup .strings) (t + done)
 
 abbrev μ-loop : tie.MeasureT-loop
-μ-loop part₀ scratch₀ out₀ trace₀ table lengths coefficients setup down piano held hand-damped damper-r₀ motion₀ done₀ pushed₀ t stop indices₀
-    part scratch out trace damper-r motion done pushed indices = stop - done
+μ-loop part₀ scratch₀ out₀ trace₀ table lengths coefficients setup down piano held hand-damped damper-r₀ counts₀ motion₀ done₀ pushed₀ t stop indices₀
+    part scratch out trace damper-r counts motion done pushed indices = stop - done
 
 -- the function's start, seen from where its locals are set and from the loop's head; the loop's test, seen from the end of a turn
 abbrev start-of : tie.After-motion Inv-loop μ-loop → tie.Start Inv-loop μ-loop
-start-of c = c .before .before .before .before .before .before .before .before .before .before .before .before
+start-of c = c .before .before .before .before .before .before .before .before .before .before .before .before .before
 
 abbrev start-at : tie.At-loop Inv-loop μ-loop → tie.Start Inv-loop μ-loop
 start-at c = start-of (c .before .before)
 
+abbrev counted-of : tie.After-motion2 Inv-loop μ-loop → tie.After-count-contact Inv-loop μ-loop
+counted-of c = c .before .before .before .before .before .before .before .before .before
+
+abbrev sampled-of : tie.After-motion2 Inv-loop μ-loop → tie.After-sample Inv-loop μ-loop
+sampled-of c = counted-of c .before .before .before .before .before .before .before .before
+
 abbrev turn-of : tie.After-motion2 Inv-loop μ-loop → tie.In-loop Inv-loop μ-loop
-turn-of c = c .before .before .before .before .before .before .before .before .before .before .before .before .before .before .before .before .before .before .before .before .before
+turn-of c = sampled-of c .before .before .before .before .before .before
 
 add-first-indices : tie.Need-add-first-indices Inv-loop μ-loop
 add-first-indices c = let range = start-of c .pre .1 in omega (arith, range .below, range .end)
@@ -61,7 +69,7 @@ sample-requires c κs =
     let turn = c .before .before .before .before .before in
     let here = turn .before .loop in
     let range = here .inv .1 in
-    (ready-kept (start-at (turn .before) .pre .0) (here .inv .2) (here .inv .3), (here .inv .4, omega (arith, range .contact, range .end, turn .loop-test .taken)))
+    (ready-kept (start-at (turn .before) .pre .0) (here .inv .2) (here .inv .3), here .inv .4)
 
 next-indices-requires : tie.Need-next-indices-requires Inv-loop μ-loop
 next-indices-requires c κs =
@@ -71,9 +79,18 @@ next-indices-requires c κs =
 put-requires : tie.Need-put-requires Inv-loop μ-loop
 put-requires c κs = search needs
 
+count-contact-requires : tie.Need-count-contact-requires Inv-loop μ-loop
+unfolding contactsOf
+count-contact-requires c κs =
+    let turn = c .before .before .before .before .before .before .before .before .before .before .before .before .before in
+    let here = turn .before .loop in
+    let range = here .inv .1 in
+    can-count _ (here .motion .hammer) (here .contact-samples) (range .piano .hammer) (start-at (turn .before) .pre .0 .keys)
+    (omega (arith, range .piano .contact, range .end, turn .loop-test .taken))
+
 push-requires : tie.Need-push-requires Inv-loop μ-loop
 push-requires c κs =
-    let turn = c .before .before .before .before .before .before .before .before .before .before .before .before .before .before .before .before .before in
+    let turn = c .before .before .before .before .before .before .before .before .before .before .before .before .before .before .before .before .before .before .before in
     let range = turn .before .loop .inv .1 in
     omega (arith, range .pushes, range .end, turn .loop-test .taken)
 
@@ -87,8 +104,9 @@ loop-again : tie.Need-loop-again Inv-loop μ-loop
 loop-again c =
     let pushed = c .before .before .before .push in
     let stored = c .before .before .before .before .before .before .before .put in
-    let indexed = c .before .before .before .before .before .before .before .before .before .next-indices in
-    let sampled = c .before .before .before .before .before .before .before .before .before .before .before .before .before .before .before .sample in
+    let counted = counted-of c .count-contact in
+    let indexed = counted-of c .before .before .next-indices in
+    let sampled = sampled-of c .sample in
     let turn = turn-of c in
     let here = turn .before .loop in
     let at = start-at (turn .before) .args in
@@ -96,8 +114,8 @@ loop-again c =
     let step : Step = stepOf (sampled .result) (sampled .last .1 .1 .0) (sampled .last .0) in
     let next : at .stretch .t + here .done + 1 ≡ at .stretch .t + (here .done + 1) = omega arith in
     let turned =
-    one-turn (modelAt (s .setup) (at .table .now) (at .lengths .now) (at .coefficients .now)) (downs (s .down)) (s .t) (s .run .piano) (here .damper-r) (here .motion) (here .part)
-    (here .done) (here .pushed) step (sampled .ensures) (pushed .result) (pushed .ensures .0) (here .inv .1) (turn .loop-test .taken) (stored .ensures) (pushed .ensures .1) in (
+    one-turn (modelAt (s .setup) (at .table .now) (at .lengths .now) (at .coefficients .now)) (downs (s .down)) (s .t) (s .run .piano) (here .damper-r) (here .contact-samples) (here .motion)
+    (here .part) (here .done) (here .pushed) step (sampled .ensures) _ (counted .ensures) (pushed .result) (pushed .ensures .0) (here .inv .1) (turn .loop-test .taken) (stored .ensures) (pushed .ensures .1) in (
       advanced-then (here .inv .0) (turned .0),
       turned .1,
       sampled .kept .0 ∙ here .inv .2,
@@ -135,6 +153,7 @@ play-stretch-spec =
     add-at
     sample-requires
     next-indices-requires
+    count-contact-requires
     put-requires
     push-requires
     add-done

@@ -2,6 +2,7 @@
 -- range; part and scratch have as many cells as before. A turn is a stretch, whose samples are the score's by `stretch-advanced`. Assumes nothing.
 use mathlib.Core.Path.{_≡_, refl, _∙_}
 use Prim.Native.Nat.{_-_}
+use native.Mathlib.Nat.{add-zero}
 use native.Mathlib.Omega.{arith}
 use lib.ListN.{length}
 use Rattle.score.specs.Score.{eventsOf}
@@ -14,7 +15,7 @@ use Rattle.render.proofs.render.Tie as tie
 abbrev Inv-loop : tie.InvT-loop
 Inv-loop part₀ scratch₀ out₀ trace₀ instrument score t m table lengths coefficients run₀ part scratch out trace run =
     Advanced (sampleAt instrument (eventsOf score)) t (unstarted (run₀ .piano) part₀ out₀ trace₀) (renderingOf run part out trace)
-    × InRange run t m × (length part ≡ length part₀) × (length scratch ≡ length scratch₀)
+    × InRange (instrument .«key_count») run t m × (length part ≡ length part₀) × (length scratch ≡ length scratch₀)
 
 abbrev μ-loop : tie.MeasureT-loop
 μ-loop part₀ scratch₀ out₀ trace₀ instrument score t m table lengths coefficients run₀ part scratch out trace run = m - run .done
@@ -49,7 +50,7 @@ loop-holds c =
     let at = start .args in
     let asked = start .pre .1 .1 in (
       advanced-start (at .t) (unstarted (at .piano) (at .part .now) (at .out .now) (at .trace .now)),
-      record { below = omega arith; end = asked .1; contact = omega (arith, asked .0); pushes = omega arith },
+      record { below = omega arith; end = asked .1; piano = rw (add-zero (at .t)) (asked .0); pushes = omega arith },
       refl,
       refl,
     )

@@ -13,9 +13,6 @@ enum-known-h c = search needs
 hammer-after-requires : tie.Need-hammer-after-requires
 hammer-after-requires c κs = search needs
 
-add-t17 : tie.Need-add-t17
-add-t17 c = search needs
-
 max-requires : tie.Need-max-requires
 max-requires c κs = search needs
 
@@ -26,7 +23,7 @@ returns c = rw (c .enum-told .given .1)
 returns-2 : tie.Need-returns-2
 unfolding moved
 returns-2 c =
-    let test = c .before .before in
+    let test = c .before in
     let after = test .before in
     rw (after .before .before .before .before .before .before .h .given .1, after .hammer-after .ensures, test .if1 .taken, c .max .ensures)
 
@@ -43,7 +40,6 @@ move-hammer-spec =
     enum-told
     enum-known-h
     hammer-after-requires
-    add-t17
     max-requires
     returns
     returns-2

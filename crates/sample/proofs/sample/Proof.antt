@@ -19,14 +19,14 @@ filter-strings-requires : tie.Need-filter-strings-requires
 filter-strings-requires c κs =
     let start = c .before .before .before .before .before .before .before in
     let ready = start .pre .0 in
-    (ready .fit, (start .pre .1 .0, (ready .cells, ready .scratch)))
+    (ready .fit, (start .pre .1, (ready .cells, ready .scratch)))
 
 strike-strings-requires : tie.Need-strike-strings-requires
 strike-strings-requires c κs =
     let filtered = c .before .before .before .before .before .before in
     let start = filtered .before .before .before .before .before .before .before .before in
     let ready = start .pre .0 in
-    (ready .fit, (start .pre .1 .0, omega (arith, filtered .filter-strings .kept .0, ready .cells)))
+    (ready .fit, (start .pre .1, omega (arith, filtered .filter-strings .kept .0, ready .cells)))
 
 move-hammer-requires : tie.Need-move-hammer-requires
 move-hammer-requires c κs = search needs
@@ -37,7 +37,7 @@ bridge-requires c κs =
     let filtered = struck .before .before .before .before .before .before .before in
     let start = filtered .before .before .before .before .before .before .before .before in
     let kept = filtered .filter-strings .kept in
-    (ready-kept (start .pre .0) (struck .strike-strings .kept .0 ∙ kept .0) (kept .1 .0), start .pre .1 .0)
+    (ready-kept (start .pre .0) (struck .strike-strings .kept .0 ∙ kept .0) (kept .1 .0), start .pre .1)
 
 flies-requires : tie.Need-flies-requires
 flies-requires c κs = search needs
@@ -50,7 +50,8 @@ same-length-2 c = search needs
 
 returns : tie.Need-returns
 returns c =
-    let bridged = c .before .before .before in
+    let flown = c .before in
+    let bridged = flown .before .before .before in
     let moved = bridged .before .before .before in
     let struck = moved .before .before .before in
     let filtered = struck .before .before .before .before .before .before .before in
@@ -62,7 +63,7 @@ returns c =
     sample-is model (λ k. getD (at .down .now) k false) (at .t) (at .damper-r .now) (at .motion) (at .part .now)
     (drop (at .setup .strings) (at .scratch .now)) (fit-sound (ready .fit)) (ready .cells)
     (damped .move-dampers .ensures) (filtered .filter-strings .ensures .0) (struck .strike-strings .ensures .0) (struck .strike-strings .ensures .1)
-    (moved .move-hammer .ensures) (rw (filtered .filter-strings .ensures .1) at (bridged .bridge .ensures)) (c .flies .ensures)
+    (moved .move-hammer .ensures) (rw (filtered .filter-strings .ensures .1) at (bridged .bridge .ensures)) (flown .flies .ensures)
 
 pub sample-spec : {M : Type 1} → statement M
 sample-spec =

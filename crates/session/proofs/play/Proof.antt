@@ -54,6 +54,9 @@ render-requires c κs =
     let q = play-ready (from .instrument) (from .session) (from .work .now) (from .scratch .now) (from .out .now) (from .trace .now) p _ (sized .part-size .ensures) in
     (q .0, (q .1, (q .2, q .3)))
 
+contacts-requires : tie.Need-contacts-requires
+contacts-requires c κs = search needs
+
 same-length : tie.Need-same-length
 same-length c = search needs
 
@@ -68,13 +71,14 @@ same-length-4 c = search needs
 
 returns-2 : tie.Need-returns-2
 returns-2 c =
-    let rendered = c .before .before .before .before .before .before .before .before .before in
+    let rendered = c .before .before .before .before .before .before .before .before .before .before .before in
     let sized = rendered .before .before .before .before .before .before .before .before in
     let at = sized .before in
     let from = at .before .before .before .before .before .before .args in
     let p = play-tested (from .instrument) (from .session) (from .work .now) (from .scratch .now) (from .out .now) (from .trace .now) _ (at .before .play-refusal .ensures) (at .if1 .left) in
     meets-accepted _ (at .before .play-refusal .ensures) (at .if1 .left)
-    (plays (from .instrument) (from .session) (from .work .now) (from .scratch .now) (from .out .now) (from .trace .now) p _ (sized .part-size .ensures) _ _ _ _ (rendered .render .ensures))
+    (plays (from .instrument) (from .session) (from .work .now) (from .scratch .now) (from .out .now) (from .trace .now) p _ (sized .part-size .ensures) _ _ _ _ _ (rendered .render .ensures)
+    (c .contacts .ensures))
 
 pub play-spec : {M : Type 1} → statement M
 play-spec =
@@ -88,6 +92,7 @@ play-spec =
     slice-relend-prefix-render
     slice-aggregate-render
     render-requires
+    contacts-requires
     same-length
     same-length-2
     same-length-3

@@ -1,5 +1,5 @@
 -- By the two cases of the hammer.
-use Rattle.session_cues.specs.Cues.{hammerOn}
+use Rattle.score.specs.Contacts.{hammerOn}
 use borrow.Author.Needs.{needs}
 use Rattle.session_cues.proofs.is_hammer_on.Statement.{statement}
 use Rattle.session_cues.proofs.is_hammer_on.Tie as tie

@@ -1,16 +1,12 @@
--- Safe: the renderer's premises are its caller's and the two tests; the silent piano has no contacts. Assumes nothing.
-use mathlib.Core.Path.{_≡_, sym, subst}
-use Prim.Native.Nat.{_≤_}
+-- Safe: the renderer's premises are its caller's and the two tests; a silent piano can be rendered from 0 on. Assumes nothing.
+use mathlib.Core.Path.{sym, subst}
 use native.Mathlib.Omega.{arith}
 use Rattle.score.specs.declared.Piano.{Piano}
-use Rattle.render.specs.Render.{silentPiano}
+use Rattle.render.specs.Render.{PianoAt}
+use Rattle.render.specs.Laws.{silent-at}
 use borrow.Author.Needs.{needs}
 use Rattle.exports.proofs.calls.rendered.Statement.{statement}
 use Rattle.exports.proofs.calls.rendered.Tie as tie
-
-no-contacts : (p : Piano) → p ≡ silentPiano → p .motion .«contact_samples» ≤ 0
-unfolding silentPiano
-no-contacts p e = subst (λ (q : Piano). q .motion .«contact_samples» ≤ 0) (sym e) (omega arith)
 
 returns : tie.Need-returns
 returns c = search needs
@@ -27,7 +23,9 @@ render-requires c κs =
     let length = piano .before in
     let count = length .before in
     let start = count .before .before .before .before .before .before in
-    (start .pre, (omega (arith, count .if1 .left), (no-contacts _ (piano .silent-piano .ensures), omega (arith, length .if2 .left))))
+    let keys = start .args .instrument .«key_count» in
+    let silent = subst (λ (p : Piano). PianoAt keys p 0) (sym (piano .silent-piano .ensures)) (silent-at keys 0) in
+    (start .pre, (omega (arith, count .if1 .left), (silent, omega (arith, length .if2 .left))))
 
 same-length : tie.Need-same-length
 same-length c = search needs

@@ -19,6 +19,12 @@ add-floats-at c = search needs
 floats-at-requires : tie.Need-floats-at-requires
 floats-at-requires c κs = search needs
 
+add-counts-at : tie.Need-add-counts-at
+add-counts-at c = search needs
+
+counts-at-requires : tie.Need-counts-at-requires
+counts-at-requires c κs = search needs
+
 add-word-at : tie.Need-add-word-at
 add-word-at c = search needs
 
@@ -34,11 +40,13 @@ motion-at-requires c κs = search needs
 returns : tie.Need-returns
 returns c =
     let pedal = c .before in
-    let dampers = pedal .before in
+    let contacts = pedal .before in
+    let dampers = contacts .before in
     let hand = dampers .before in
     let held = hand .before in
     let z = held .before .before .args in
-    piano-read (z .words .now) (z .at) _ _ _ _ _ (held .flags-at .ensures) (hand .flags-at2 .ensures) (dampers .floats-at .ensures) (pedal .word-at .ensures) (c .motion-at .ensures)
+    piano-read (z .words .now) (z .at) _ _ _ _ _ _ (held .flags-at .ensures) (hand .flags-at2 .ensures) (dampers .floats-at .ensures) (contacts .counts-at .ensures) (pedal .word-at .ensures)
+    (c .motion-at .ensures)
 
 pub piano-at-spec : {M : Type 1} → statement M
 piano-at-spec =
@@ -49,6 +57,8 @@ piano-at-spec =
     flags-at-requires-2
     add-floats-at
     floats-at-requires
+    add-counts-at
+    counts-at-requires
     add-word-at
     word-at-requires
     add-motion-at

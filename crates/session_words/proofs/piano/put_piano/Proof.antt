@@ -20,6 +20,12 @@ add-put-floats c = search needs
 put-floats-requires : tie.Need-put-floats-requires
 put-floats-requires c κs = search needs
 
+add-put-counts : tie.Need-add-put-counts
+add-put-counts c = search needs
+
+put-counts-requires : tie.Need-put-counts-requires
+put-counts-requires c κs = search needs
+
 add-put-word : tie.Need-add-put-word
 add-put-word c = search needs
 
@@ -43,14 +49,15 @@ returns c =
     let motion = c .before .before in
     let pedal = motion .before .before .before .before in
     let bit = pedal .before in
-    let dampers = bit .before .before .before .before in
+    let contacts = bit .before .before .before .before in
+    let dampers = contacts .before .before .before .before in
     let hand = dampers .before .before .before .before in
     let held = hand .before .before .before .before in
-    let s = held .before .before .before .before .before .before .before in
+    let s = held .before .before .before .before .before .before .before .before in
     let z = s .args in
     let f = fit-piano (z .piano) _ (s .good .1 .1 .0) in
-    piano-stores (z .piano) (f .heldLong) (f .handLong) (f .damperLong) (z .words .now) _ _ _ _ _ (z .at) _ (held .put-flags .ensures) (hand .put-flags2 .ensures) (dampers .put-floats .ensures)
-    (bit .bit-of .ensures) (pedal .put-word .ensures) (motion .put-motion .ensures)
+    piano-stores (z .piano) (f .heldLong) (f .handLong) (f .damperLong) (f .contactsLong) (z .words .now) _ _ _ _ _ _ (z .at) _ (held .put-flags .ensures) (hand .put-flags2 .ensures) (dampers .put-floats .ensures)
+    (contacts .put-counts .ensures) (bit .bit-of .ensures) (pedal .put-word .ensures) (motion .put-motion .ensures)
 
 pub put-piano-spec : {M : Type 1} → statement M
 put-piano-spec =
@@ -61,6 +68,8 @@ put-piano-spec =
     put-flags-requires-2
     add-put-floats
     put-floats-requires
+    add-put-counts
+    put-counts-requires
     add-put-word
     bit-of-requires
     put-word-requires
