@@ -72,7 +72,7 @@ fn put_contacts(line: &mut [u8], at: usize, instrument: Instrument, session: Ses
     let total = score::contacts(counts, instrument.key_count, session.t);
     let contact = put_counted(line, at, b" contact ", total.sum);
     let k = put(line, contact, b" keys");
-    contact_list::put_counts(line, k, counts, instrument.key_count)
+    contact_list::put_key_contacts(line, k, counts, instrument.key_count)
 }
 
 fn put_state(line: &mut [u8], instrument: Instrument, session: Session) -> usize {

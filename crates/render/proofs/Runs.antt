@@ -134,7 +134,7 @@ module _ (m : Model) (down : ℕ → Bool) (t : ℕ) (p : Piano) (R : List Float
       record {
         below = omega arith;
         end = r .end;
-        piano = record { contact = omega (arith, count, r .piano .contact); hammer = rw (← e) at (sampled-on keys m down (t + done) R motion w (r .piano .hammer)) };
+        piano = record { within = omega (arith, count, r .piano .within); hammer = rw (← e) at (sampled-on keys m down (t + done) R motion w (r .piano .hammer)) };
         pushes = omega (arith, r .pushes);
       }
 
@@ -209,7 +209,7 @@ module _ {i : Instrument} {lengths : List ℕ} {coefficients part scratch : List
         rw (q .start, q .setup, q .done) (record {
           below = omega (arith, q .more);
           end = omega (arith, g .end, q .most);
-          piano = record { contact = rw count (g .piano .contact); hammer = rw (← (q .acted)) at (all-on i (stringsOf i) es S (g .piano .hammer)) };
+          piano = record { within = rw count (g .piano .within); hammer = rw (← (q .acted)) at (all-on i (stringsOf i) es S (g .piano .hammer)) };
           pushes = omega (arith, g .pushes, q .pushed);
         })
 

@@ -96,7 +96,7 @@ silent-contacts keys = sum-zeros keys 16
 -- it can be rendered from any position on
 pub silent-at : (keys t : ℕ) → PianoAt keys silentPiano t
 unfolding silentPiano hammerOn
-silent-at keys t = record { contact = omega (arith, silent-contacts keys); hammer = refl }
+silent-at keys t = record { within = omega (arith, silent-contacts keys); hammer = refl }
 
 -- ---- a run of a score
 

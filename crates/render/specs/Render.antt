@@ -133,7 +133,7 @@ pub record Advanced (step : ℕ → State → Stepped) (t : ℕ) (a b : Renderin
 
 -- what a piano of so many keys must be, to be rendered from position t on: its contacts are not above t, its hammer is on a key that is there
 pub record PianoAt (keys : ℕ) (p : Piano) (t : ℕ) : Type 0 where
-  pub contact : contactsOf keys p ≤ t
+  pub within : contactsOf keys p ≤ t
   pub hammer : hammerOn keys (p .motion .hammer) ≡ true
 
 -- a run whose counts are within its position, with samples left up to `stop`

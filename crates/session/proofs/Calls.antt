@@ -109,7 +109,7 @@ module _ (i : Instrument) (s : Session) (work spare out trace : List Float) (p :
       let fs = forces i (scoreOf s) (s .t) (length out) st in
       let after : r .piano ≡ run i (scoreOf s) (s .t) (length out) st .piano = ap (λ x. x .piano) (b .state) in
       let low = rw (← after) at (run-contact i (scoreOf s) (i .«key_count») (s .t) (length out) st) in
-      let start = play-ready .2 .contact in
+      let start = play-ready .2 .within in
       let sum = c .sum (c .within ∙ le-leb (contactsOf (i .«key_count») (r .piano)) (s .t + length out) (omega (arith, low, start))) in
       record {
         answer = rw (← ew) (ap (λ k. Played k (total .sum)) (b .forced) ∙ ap (λ n. Played (length fs) n) (sum ∙ ap (contactsOf (i .«key_count»)) after));

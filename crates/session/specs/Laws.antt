@@ -57,15 +57,15 @@ get-any (x ∷ xs) (suc j) d e h = get-any xs j d e (omega arith)
 module _ (keys x : ℕ) (p : Piano) where
   pub sound-from-render : PianoAt keys p x → soundPiano keys x p ≡ true
   unfolding soundPiano
-  sound-from-render a = rw (le-leb (contactsOf keys p) x (a .contact)) (a .hammer)
+  sound-from-render a = rw (le-leb (contactsOf keys p) x (a .within)) (a .hammer)
 
   pub sound-for-render : soundPiano keys x p ≡ true → PianoAt keys p x
-  sound-for-render e = let a = piano-parts keys x p e in record { contact = a .0; hammer = a .1 }
+  sound-for-render e = let a = piano-parts keys x p e in record { within = a .0; hammer = a .1 }
 
 -- a state of the render can be held for its position
 pub rendered-sound : (i : Instrument) (score : List TimedEvent) (x : ℕ) (st : State) → st ≡ renderState i score x → soundPiano (i .«key_count») x (st .piano) ≡ true
 rendered-sound i score x st e =
-    rw e (sound-from-render (i .«key_count») x (renderState i score x .piano) (record { contact = render-contact i score x; hammer = render-hammer i score x }))
+    rw e (sound-from-render (i .«key_count») x (renderState i score x .piano) (record { within = render-contact i score x; hammer = render-hammer i score x }))
 
 -- a state of the render has W cells
 pub rendered-length : (i : Instrument) → valid i ≡ true → (score : List TimedEvent) (p : ℕ) → length (renderState i score p .cells) ≡ partCells i

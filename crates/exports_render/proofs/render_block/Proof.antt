@@ -63,7 +63,7 @@ render-requires c κs =
       valid-renderable i passes _ _ (omega (arith, w, cells .if2 .left)) (room .if3 .left),
       (
         score .score-of .ensures,
-        (record { contact = piano .0; hammer = piano .1 }, omega (arith, sooner .if5 .left, shorter .if6 .left)),
+        (record { within = piano .0; hammer = piano .1 }, omega (arith, sooner .if5 .left, shorter .if6 .left)),
       ),
     )
 

@@ -86,7 +86,7 @@ count-contact-requires c κs =
     let here = turn .before .loop in
     let range = here .inv .1 in
     can-count _ (here .motion .hammer) (here .contact-samples) (range .piano .hammer) (start-at (turn .before) .pre .0 .keys)
-    (omega (arith, range .piano .contact, range .end, turn .loop-test .taken))
+    (omega (arith, range .piano .within, range .end, turn .loop-test .taken))
 
 push-requires : tie.Need-push-requires Inv-loop μ-loop
 push-requires c κs =

@@ -3,8 +3,8 @@ use mathlib.Core.Path.{_≡_}
 use Prim.Native.Nat.{_-_}
 use lib.ListN.{length}
 use borrow.Author.Needs.{needs}
-use Rattle.console.proofs.contact_list.put_counts.Statement.{statement}
-use Rattle.console.proofs.contact_list.put_counts.Tie as tie
+use Rattle.console.proofs.contact_list.put_key_contacts.Statement.{statement}
+use Rattle.console.proofs.contact_list.put_key_contacts.Tie as tie
 
 abbrev Inv-loop : tie.InvT-loop
 Inv-loop line₀ at keys counts k₀ i₀ t8 line k i = length line ≡ length line₀
@@ -48,8 +48,8 @@ same-length-2 c = search needs
 returns-2 : tie.Need-returns-2 Inv-loop μ-loop
 returns-2 c = search needs
 
-pub put-counts-spec : {M : Type 1} → statement M
-put-counts-spec =
+pub put-key-contacts-spec : {M : Type 1} → statement M
+put-key-contacts-spec =
     tie.close
     (tie.spec
     Inv-loop
