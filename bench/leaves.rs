@@ -138,7 +138,7 @@ fn filters(rows: &mut Vec<Measured>, random: &mut Random) {
         cells: vec![0.0; cells],
         block: Block::new(inputs.clone()),
     };
-    let (mut row, mut whole) = (string(132), string(135));
+    let (mut row, mut copied, mut whole) = (string(132), string(132), string(135));
     rows.push(measure(
         "row of 66 stages",
         Some(1.05),
@@ -146,6 +146,15 @@ fn filters(rows: &mut Vec<Measured>, random: &mut Random) {
         &mut row,
         |s| s.block.ready(),
         |s| s.rust.row_run(&mut s.block.values),
+        |s| exports::row_run(&mut s.cells, design.ap_a, &mut s.block.values),
+    ));
+    rows.push(measure(
+        "row of 66 stages, Rust on a copy of the row",
+        None,
+        calls,
+        &mut copied,
+        |s| s.block.ready(),
+        |s| s.rust.copied_row_run(&mut s.block.values),
         |s| exports::row_run(&mut s.cells, design.ap_a, &mut s.block.values),
     ));
     rows.push(measure(
@@ -161,7 +170,9 @@ fn filters(rows: &mut Vec<Measured>, random: &mut Random) {
             }
         },
     ));
-    assert!(all_alike(&row.rust.row_cells(), &row.cells), "row of 66 stages: the two sides differ");
+    for row in [row, copied] {
+        assert!(all_alike(&row.rust.row_cells(), &row.cells), "row of 66 stages: the two sides differ");
+    }
     assert!(all_alike(&whole.rust.cells(), &whole.cells), "loop_filter: the two sides differ");
 }
 

@@ -386,6 +386,29 @@ fn rows(stride: u64) -> Tally {
     tally
 }
 
+/// Rows of every number of stages, cut behind each: the proved row on either part, the first part's output fed to the
+/// second, beside the Rust's on the whole.
+fn cut_rows() -> Tally {
+    let mut tally = Tally::new("dispersion, cut", 0);
+    let mut random = Random::new(14);
+    for ap_count in 0..=66 {
+        for cut in 0..=ap_count {
+            let [a] = filter_numbers(&mut random);
+            let mut lent = Lent::new(&filter_cells(&mut random, 2 * ap_count));
+            let mut rust = Filters::new(&LoopDesign { n_total: 4, ap_count, ap_a: a, ..LoopDesign::default() });
+            rust.set_row(lent.cells());
+            let side = |x| (rust.row(x), rust.row_cells());
+            let rattle = |cells: &mut [f64], x| {
+                let (first, second) = cells.split_at_mut(2 * cut);
+                let v = exports::dispersion(first, a, x);
+                exports::dispersion(second, a, v)
+            };
+            steps(&mut tally, &mut random, 20, &mut lent, &[a], side, rattle);
+        }
+    }
+    tally
+}
+
 fn loop_filters(stride: u64) -> Tally {
     let mut tally = Tally::new("loop_filter", stride);
     let mut random = Random::new(13);
@@ -423,6 +446,7 @@ fn main() {
         cuts(stride(500)),
         allpasses(stride(800)),
         rows(stride(3_000)),
+        cut_rows(),
         loop_filters(stride(2_900)),
     ];
     if let Some(file) = sample {

@@ -71,11 +71,7 @@ impl Filters {
     /// The row alone, as `loop_filter` runs it.
     #[inline(always)]
     pub fn row(&mut self, x: f64) -> f64 {
-        let mut v = x;
-        for ap in &mut self.0.dispersion {
-            v = ap.process(v);
-        }
-        v
+        run_stages(&mut self.0.dispersion, x)
     }
 
     #[inline(always)]
@@ -97,6 +93,36 @@ impl Filters {
         for x in block {
             *x = self.loop_filter(*x);
         }
+    }
+
+    /// The row's outputs again, each from a copy of the row that is then put back: what a copy would cost.
+    #[inline(never)]
+    pub fn copied_row_run(&mut self, block: &mut [f64]) {
+        let mut copy: Vec<Allpass> = self.0.dispersion.iter().map(copy_of).collect();
+        for x in block {
+            copy_stages(&self.0.dispersion, &mut copy);
+            *x = run_stages(&mut copy, *x);
+            copy_stages(&copy, &mut self.0.dispersion);
+        }
+    }
+}
+
+#[inline(always)]
+fn run_stages(stages: &mut [Allpass], x: f64) -> f64 {
+    let mut v = x;
+    for ap in stages {
+        v = ap.process(v);
+    }
+    v
+}
+
+fn copy_of(stage: &Allpass) -> Allpass {
+    Allpass { a: stage.a, x1: stage.x1, y1: stage.y1 }
+}
+
+fn copy_stages(from: &[Allpass], to: &mut [Allpass]) {
+    for (from, to) in from.iter().zip(to) {
+        *to = copy_of(from);
     }
 }
 

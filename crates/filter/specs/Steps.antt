@@ -10,7 +10,7 @@ use Rattle.cells.specs.Splice.{part, splice, part-length, part-past, length-spl
 use Rattle.cells.specs.Middle.{part-add, splice-next}
 use Rattle.filter.specs.declared.LoopFilter.{LoopFilter}
 use Rattle.filter.specs.Filter.{stageOut, stageCells, rowOut, rowCells, lossOf, loopOut, loopCells}
-use Rattle.filter.specs.Laws.{stage-length, row-length, row-out-cut, row-cells-cut}
+use Rattle.filter.specs.Laws.{stage-length, row-length, row-cut}
 use Rattle.filter.specs.Loop.{loss-is}
 
 -- the row on the k cells from s on, of the input v: the cells with it moved on, and what leaves it
@@ -42,10 +42,10 @@ stage-row a v (x ∷ (y ∷ (z ∷ s))) h = let q : ⊥ = omega arith in absurd 
 -- a row on cells of which the first are n stages
 module _ (a v : Float) (n : ℕ) (xs ys : List Float) (h : length xs ≡ n + n) where
   out-add : rowOut a (xs ++ ys) v ≡ rowOut a ys (rowOut a xs v)
-  out-add = row-out-cut a v n (xs ++ ys) ∙ rw (take-at xs ys (n + n) h, drop-at xs ys (n + n) h)
+  out-add = row-cut a v n (xs ++ ys) .0 ∙ rw (take-at xs ys (n + n) h, drop-at xs ys (n + n) h)
 
   cells-add : rowCells a (xs ++ ys) v ≡ rowCells a xs v ++ rowCells a ys (rowOut a xs v)
-  cells-add = row-cells-cut a v n (xs ++ ys) ∙ rw (take-at xs ys (n + n) h, drop-at xs ys (n + n) h)
+  cells-add = row-cut a v n (xs ++ ys) .1 ∙ rw (take-at xs ys (n + n) h, drop-at xs ys (n + n) h)
 
 -- a row keeps the number of cells
 pub row-at-length : (a v : Float) (s k : ℕ) (w : List Float) → s + k ≤ length w → length (rowAt a s k v w) ≡ length w
