@@ -138,25 +138,24 @@ fn filters(rows: &mut Vec<Measured>, random: &mut Random) {
         cells: vec![0.0; cells],
         block: Block::new(inputs.clone()),
     };
-    let (mut row, mut copied, mut whole) = (string(132), string(132), string(135));
-    rows.push(measure(
-        "row of 66 stages",
-        Some(1.05),
-        calls,
-        &mut row,
-        |s| s.block.ready(),
-        |s| s.rust.row_run(&mut s.block.values),
-        |s| exports::row_run(&mut s.cells, design.ap_a, &mut s.block.values),
-    ));
-    rows.push(measure(
-        "row of 66 stages, Rust on a copy of the row",
-        None,
-        calls,
-        &mut copied,
-        |s| s.block.ready(),
-        |s| s.rust.copied_row_run(&mut s.block.values),
-        |s| exports::row_run(&mut s.cells, design.ap_a, &mut s.block.values),
-    ));
+    let row_runs: [(&str, Option<f64>, fn(&mut Filters, &mut [f64])); 2] = [
+        ("row of 66 stages", Some(1.05), Filters::row_run),
+        ("row of 66 stages, Rust on a copy of the row", None, Filters::copied_row_run),
+    ];
+    for (what, target, rust) in row_runs {
+        let mut row = string(132);
+        rows.push(measure(
+            what,
+            target,
+            calls,
+            &mut row,
+            |s| s.block.ready(),
+            |s| rust(&mut s.rust, &mut s.block.values),
+            |s| exports::row_run(&mut s.cells, design.ap_a, &mut s.block.values),
+        ));
+        assert!(all_alike(&row.rust.row_cells(), &row.cells), "{what}: the two sides differ");
+    }
+    let mut whole = string(135);
     rows.push(measure(
         "loop_filter with 66 stages",
         None,
@@ -170,9 +169,6 @@ fn filters(rows: &mut Vec<Measured>, random: &mut Random) {
             }
         },
     ));
-    for row in [row, copied] {
-        assert!(all_alike(&row.rust.row_cells(), &row.cells), "row of 66 stages: the two sides differ");
-    }
     assert!(all_alike(&whole.rust.cells(), &whole.cells), "loop_filter: the two sides differ");
 }
 
