@@ -136,6 +136,12 @@ module _ {A : Type 0} where
   unfolding gather
   gather-more n G = rw add-one
 
+  -- the first list, and the others
+  pub gather-first : (n : ℕ) (G : ℕ → List A) → G 0 ++ gather n (λ k. G (suc k)) ≡ gather (suc n) G
+  unfolding gather
+  gather-first zero G = append-nil (G 0)
+  gather-first (suc n) G = sym (append-assoc (G 0) (gather n (λ k. G (suc k))) (G (suc n))) ∙ ap (λ (l : List A). l ++ G (suc n)) (gather-first n G)
+
   pub gather-cong : (n : ℕ) (G H : ℕ → List A) → ((i : ℕ) → i < n → G i ≡ H i) → gather n G ≡ gather n H
   unfolding gather
   gather-cong zero G H h = refl

@@ -10,6 +10,7 @@ use lib.Seq.{drop-append-add, drop-append-seam}
 use Rattle.little_endian.specs.Numbers.{u16At, u32At, le16, le32}
 use Rattle.little_endian.specs.Places.{u32At-drop}
 use Rattle.little_endian.specs.Bytes.{u32-back}
+use Rattle.little_endian.specs.Stores.{length-le32}
 use Rattle.counting.specs.Below.{sumBelow, gather}
 use Rattle.counting.specs.Laws.{sum-within, sum-same, length-gather}
 use Rattle.instrument_file.specs.File.{offsetOf, lengthOf}
@@ -44,10 +45,6 @@ module _ {A : Type 0} where
 
   pub at-later : (xs f : List A) (p q : ℕ) (x : List A) → length xs + p ≡ q → StandsAt f p x → StandsAt (xs ++ f) q x
   at-later xs f p q x e a = record { after = a .after; is = ap (λ (m : ℕ). drop m (xs ++ f)) (sym e) ∙ drop-append-add xs f p ∙ a .is }
-
-pub length-le32 : (x : ℕ) → length (le32 x) ≡ 4
-unfolding le32 le16
-length-le32 x = refl
 
 first-word : (a b : ℕ) (r : List ℕ) → a < 4294967296 → u32At ((le32 a ++ le32 b) ++ r) 0 ≡ a
 unfolding u32At u16At le32 le16

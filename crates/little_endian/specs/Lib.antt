@@ -2,3 +2,4 @@ pub mod Numbers
 pub mod Floats
 pub mod Places
 pub mod Bytes
+pub mod Stores

@@ -1,8 +1,9 @@
-// Document 01, "Instrument file": "Little-endian." Whole numbers and floats at a place in lent bytes, for every place: past the end the bytes count as 0.
+// Document 01, "Instrument file": "Little-endian." Whole numbers and floats at a place in lent bytes, for every place: past the end the bytes read count as 0, and bytes stored are left out.
 ghost use mathlib.Core.Path.{_≡_};
 ghost use lib.Ieee.{binary64, ofBits, toBits};
-ghost use lib.ListN.{take, drop};
-ghost use Rattle.little_endian.specs.Numbers.{byteAt, u16At, u32At, u64At, f64At};
+ghost use lib.ListN.{take, drop, set};
+ghost use lib.Seq.{sets};
+ghost use Rattle.little_endian.specs.Numbers.{byteAt, u16At, u32At, u64At, f64At, le16, le32, le64, leF64};
 
 // At most n bytes from p on: fewer where the bytes end before.
 pub fn part(f: &[u8], p: usize, n: usize) -> &[u8]
@@ -103,4 +104,51 @@ pub fn f64_at(f: &[u8], p: usize) -> f64
     ensures { λ r. ⌜ r ≡ f64At (now (f .entry)) p ⌝ }
 {
     float_of(u64_at(f, p))
+}
+
+// ---- stores
+
+pub fn put_u8(b: &mut [u8], p: usize, x: u8)
+    ensures { λ _. ⌜ now (b .exit) ≡ set (now (b .entry)) p x ⌝ }
+{
+    if p < b.len() {
+        b[p] = x;
+    }
+}
+
+// Nothing is stored past the end, so that no sum of places can wrap.
+pub fn put_u16(b: &mut [u8], p: usize, x: u16)
+    ensures { λ _. ⌜ now (b .exit) ≡ sets (now (b .entry)) p (le16 x) ⌝ }
+{
+    if b.len() <= p {
+        return;
+    }
+    put_u8(b, p, (x % 0x100) as u8);
+    put_u8(b, p + 1, (x / 0x100) as u8);
+}
+
+pub fn put_u32(b: &mut [u8], p: usize, x: u32)
+    ensures { λ _. ⌜ now (b .exit) ≡ sets (now (b .entry)) p (le32 x) ⌝ }
+{
+    if b.len() <= p {
+        return;
+    }
+    put_u16(b, p, (x % 0x1_0000) as u16);
+    put_u16(b, p + 2, (x / 0x1_0000) as u16);
+}
+
+pub fn put_u64(b: &mut [u8], p: usize, x: u64)
+    ensures { λ _. ⌜ now (b .exit) ≡ sets (now (b .entry)) p (le64 x) ⌝ }
+{
+    if b.len() <= p {
+        return;
+    }
+    put_u32(b, p, (x % 0x1_0000_0000) as u32);
+    put_u32(b, p + 4, (x / 0x1_0000_0000) as u32);
+}
+
+pub fn put_f64(b: &mut [u8], p: usize, x: f64)
+    ensures { λ _. ⌜ now (b .exit) ≡ sets (now (b .entry)) p (leF64 x) ⌝ }
+{
+    put_u64(b, p, bits_of(x));
 }

@@ -14,7 +14,8 @@ use Rattle.points.specs.declared.HammerState.the-variants.{Resting, Flying}
 use Rattle.sample.specs.declared.Motion.{Motion}
 use Rattle.score.specs.declared.Piano.{Piano}
 use Rattle.session_words.specs.Layout.{peakOffset, handDampedOffset, dampersOffset, contactsOffset, pedalOffset, motionOffset}
-use Rattle.session_words.specs.Items.{joined, itemsOf, sets-next}
+use Rattle.little_endian.specs.Stores.{sets-next}
+use Rattle.session_words.specs.Items.{joined, itemsOf}
 use Rattle.session_words.specs.Piano.{bitOf, flagWord, flagOf, floatWord, floatOf, countWord, countOf, hammerWords, hammerFrom, motionWords, motionOf, pianoWords, pianoOf}
 use Rattle.session_words.specs.PianoLaws.{flags-length, floats-length, counts-length, hammer-length}
 use Rattle.session_words.proofs.Runs.{first}

@@ -11,6 +11,7 @@ use lib.ListN.{length, getD, drop, set}
 use lib.Seq.{sets, getD-drop, drop-drop}
 use borrow.Author.Tests.{eq-eqb, ne-eqb}
 use Rattle.counting.specs.Below.{allBelow}
+use Rattle.little_endian.specs.Stores.{sets-next, sets-whole}
 use Rattle.score.specs.declared.Event.{Event}
 use Rattle.score.specs.declared.Event.the-variants.{NoteOn, NoteOff, Pedal, HandDamp}
 use Rattle.score.specs.declared.TimedEvent.{TimedEvent}
@@ -18,7 +19,7 @@ use Rattle.score.specs.declared.Piano.{Piano}
 use Rattle.session_cues.specs.declared.Cue.{Cue}
 use Rattle.session_record.specs.declared.Session.{Session}
 use Rattle.session_words.specs.Layout.{timedSize, cueSize, cuePianoOffset, eventsOffset, cuesOffset, pianoOffset, sessionSize}
-use Rattle.session_words.specs.Items.{joined, itemsOf, sets-next, sets-whole}
+use Rattle.session_words.specs.Items.{joined, itemsOf}
 use Rattle.session_words.specs.Piano.{bitOf, pianoWords, pianoOf}
 use Rattle.session_words.proofs.Runs.{first}
 use Rattle.session_words.specs.Session.{eventOf, timedWords, timedOf, cueWords, cueOf, wordsOf, sessionOf, isSession, ReadMeets, PutMeets}

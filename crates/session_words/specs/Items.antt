@@ -2,11 +2,12 @@
 use mathlib.Core.Path.{_≡_, refl, sym, ap, _∙_}
 use mathlib.Core.List.{List, [], _∷_, _++_, append-assoc, append-nil}
 use Prim.Native.Nat.{ℕ, zero, suc, _+_, _*_, _≤_, _<_}
-use native.Mathlib.Nat.{add-zero, mul-suc}
+use native.Mathlib.Nat.{mul-suc}
 use native.Mathlib.Numerals.{add-one}
 use native.Mathlib.Omega.{arith}
 use lib.ListN.{length, take, drop, getD, set, length-append}
-use lib.Seq.{sets, sets-eq, take-suc, take-suc-set, take-all, drop-at, drop-drop, drop-length, length-take-le}
+use lib.Seq.{sets, take-suc, take-suc-set, take-all, drop-at, drop-drop, length-take-le}
+use Rattle.little_endian.specs.Stores.{sets-next}
 
 module _ {A : Type 0} where
   -- the words of each item, one item after the other
@@ -23,19 +24,6 @@ module _ {A : Type 0} where
   unfoldable pub AllOf : (A → Type 0) → List A → Type 0
   AllOf P [] = Unit {0}
   AllOf P (x ∷ xs) = P x × AllOf P xs
-
--- ---- runs of stores
-
--- a run after a run
-pub sets-next : (l xs ys : List ℕ) (a b : ℕ) → b ≡ a + length xs → sets (sets l a xs) b ys ≡ sets l a (xs ++ ys)
-sets-next l [] ys a b e = ap (λ (n : ℕ). sets l n ys) (e ∙ add-zero a)
-sets-next l (x ∷ xs) ys a b e = sets-next (set l a x) xs ys (suc a) b (e ∙ (omega arith))
-
--- a run that is as long as the list is all of it afterwards
-pub sets-whole : (l vs : List ℕ) → length vs ≡ length l → sets l 0 vs ≡ vs
-sets-whole l vs e =
-    let n : 0 + length vs ≡ length l = omega arith in
-    sets-eq vs l 0 (omega arith) ∙ ap (λ (n : ℕ). vs ++ drop n l) n ∙ ap (λ (r : List ℕ). vs ++ r) (drop-length l) ∙ append-nil vs
 
 -- ---- the loops
 

@@ -1,42 +1,24 @@
 // Mono WAV files of 64-bit floats: format 3, with the chunk `fact` that the format asks for.
 use little_endian::f64_at;
+use little_endian::put_f64;
+use little_endian::put_u8;
+use little_endian::put_u16;
+use little_endian::put_u32;
 use little_endian::u16_at;
 use little_endian::u32_at;
-ghost use mathlib.Core.Path.{_≡_};
 ghost use Prim.Native.Nat.{_≤_};
 ghost use lib.ListN.{length};
 
 pub const HEADER: usize = 58;
 
-// The byte of n that is worth 256^i.
-fn byte_of(n: u64, i: usize) -> u8 {
-    let mut m = n;
-    for k in 0..i {
-        m = m / 256;
-    }
-    (m % 256) as u8
-}
-
-// One byte, where there is a place for it.
-fn store(b: &mut [u8], p: usize, x: u8)
-    ensures { λ _. ⌜ length (now (b .exit)) ≡ length (now (b .entry)) ⌝ }
-{
-    if p < b.len() {
-        b[p] = x;
-    }
-}
-
-// `count` bytes of n at `at`, the lowest first; as many as fit.
-fn put(b: &mut [u8], at: usize, n: u64, count: usize) {
-    for i in 0..count {
-        store(b, std::num::wrapping_add_usize(at, i), byte_of(n, i));
-    }
-}
-
 fn put_text(b: &mut [u8], at: usize, text: &[u8]) {
     for i in 0..text.len() {
-        store(b, std::num::wrapping_add_usize(at, i), text[i]);
+        put_u8(b, std::num::wrapping_add_usize(at, i), text[i]);
     }
+}
+
+fn low_32(n: u64) -> u32 {
+    (n % 0x1_0000_0000) as u32
 }
 
 fn clipped(n: u64, most: u64) -> u64
@@ -60,20 +42,20 @@ pub fn header(rate: u64, count: u64) -> [u8; 58] {
     let pace = clipped(rate, 0x1fff_ffff) * 8;
     let mut h = [0u8; 58];
     put_text(&mut h, 0, b"RIFF");
-    put(&mut h, 4, 50 + size, 4);
+    put_u32(&mut h, 4, low_32(50 + size));
     put_text(&mut h, 8, b"WAVEfmt ");
-    put(&mut h, 16, 18, 4);
-    put(&mut h, 20, 3, 2);
-    put(&mut h, 22, 1, 2);
-    put(&mut h, 24, rate, 4);
-    put(&mut h, 28, pace, 4);
-    put(&mut h, 32, 8, 2);
-    put(&mut h, 34, 64, 2);
+    put_u32(&mut h, 16, 18);
+    put_u16(&mut h, 20, 3);
+    put_u16(&mut h, 22, 1);
+    put_u32(&mut h, 24, low_32(rate));
+    put_u32(&mut h, 28, low_32(pace));
+    put_u16(&mut h, 32, 8);
+    put_u16(&mut h, 34, 64);
     put_text(&mut h, 38, b"fact");
-    put(&mut h, 42, 4, 4);
-    put(&mut h, 46, samples, 4);
+    put_u32(&mut h, 42, 4);
+    put_u32(&mut h, 46, low_32(samples));
     put_text(&mut h, 50, b"data");
-    put(&mut h, 54, size, 4);
+    put_u32(&mut h, 54, low_32(size));
     h
 }
 
@@ -86,7 +68,7 @@ pub fn put_samples(samples: &[f64], bytes: &mut [u8]) -> usize
         if bytes.len() - at < 8 {
             return at;
         }
-        put(bytes, at, little_endian::bits_of(samples[i]), 8);
+        put_f64(bytes, at, samples[i]);
         at += 8;
     }
     at

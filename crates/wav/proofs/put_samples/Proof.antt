@@ -1,6 +1,6 @@
 -- The bytes stored never pass the lent ones' end: each turn asks for eight more first, and the loop keeps `at` within them.
 use mathlib.Core.Path.{_≡_}
-use Prim.Native.Nat.{_+_, _-_, _≤_, _<_}
+use Prim.Native.Nat.{_-_, _≤_}
 use lib.ListN.{length}
 use borrow.Author.Needs.{needs}
 use Rattle.wav.proofs.put_samples.Statement.{statement}
@@ -24,17 +24,14 @@ same-length c = search needs
 returns : tie.Need-returns Inv-loop μ-loop
 returns c = search needs
 
-mul-bits-of : tie.Need-mul-bits-of Inv-loop μ-loop
-mul-bits-of c = search needs
+mul-put-f64 : tie.Need-mul-put-f64 Inv-loop μ-loop
+mul-put-f64 c = search needs
 
-shared-slice-read-bits-of : tie.Need-shared-slice-read-bits-of Inv-loop μ-loop
-shared-slice-read-bits-of c = search needs
+shared-slice-read-put-f64 : tie.Need-shared-slice-read-put-f64 Inv-loop μ-loop
+shared-slice-read-put-f64 c = search needs
 
-bits-of-requires : tie.Need-bits-of-requires Inv-loop μ-loop
-bits-of-requires c κs = search needs
-
-put-requires : tie.Need-put-requires Inv-loop μ-loop
-put-requires c κs = search needs
+put-f64-requires : tie.Need-put-f64-requires Inv-loop μ-loop
+put-f64-requires c κs = search needs
 
 add-at : tie.Need-add-at Inv-loop μ-loop
 add-at c = search needs
@@ -64,10 +61,9 @@ put-samples-spec =
     sub-if1
     same-length
     returns
-    mul-bits-of
-    shared-slice-read-bits-of
-    bits-of-requires
-    put-requires
+    mul-put-f64
+    shared-slice-read-put-f64
+    put-f64-requires
     add-at
     add-i
     loop-less

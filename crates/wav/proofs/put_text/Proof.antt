@@ -1,6 +1,6 @@
--- Safe for every place: `store` tests each index, and the loop's own stays below the text's length.
+-- Safe for every place: `put_u8` tests each index, and the loop's own stays below the text's length.
 use mathlib.Core.Path.{_≡_}
-use Prim.Native.Nat.{_+_, _-_, _≤_, _<_}
+use Prim.Native.Nat.{_-_, _≤_}
 use lib.ListN.{length}
 use borrow.Author.Needs.{needs}
 use Rattle.wav.proofs.put_text.Statement.{statement}
@@ -18,11 +18,11 @@ loop-holds c = search needs
 wrapping-add-usize-requires : tie.Need-wrapping-add-usize-requires Inv-loop μ-loop
 wrapping-add-usize-requires c κs = search needs
 
-shared-slice-read-store : tie.Need-shared-slice-read-store Inv-loop μ-loop
-shared-slice-read-store c = search needs
+shared-slice-read-put-u8 : tie.Need-shared-slice-read-put-u8 Inv-loop μ-loop
+shared-slice-read-put-u8 c = search needs
 
-store-requires : tie.Need-store-requires Inv-loop μ-loop
-store-requires c κs = search needs
+put-u8-requires : tie.Need-put-u8-requires Inv-loop μ-loop
+put-u8-requires c κs = search needs
 
 add-i : tie.Need-add-i Inv-loop μ-loop
 add-i c = search needs
@@ -47,8 +47,8 @@ put-text-spec =
     μ-loop
     loop-holds
     wrapping-add-usize-requires
-    shared-slice-read-store
-    store-requires
+    shared-slice-read-put-u8
+    put-u8-requires
     add-i
     loop-less
     loop-again
