@@ -8,6 +8,7 @@ pub mod Rewritten
 pub mod Typed
 pub mod FieldsBack
 pub mod Placed
+pub mod Lengths
 pub mod Reread
 pub mod Written
 pub mod Files

@@ -6,11 +6,10 @@ use Prim.Native.Nat.{ℕ, zero, suc, _+_, _-_, _*_, _≤_, _<_}
 use native.Mathlib.Numerals.{add-one}
 use native.Mathlib.Omega.{arith}
 use lib.Dec.{leb, eqb}
-use lib.ListN.{length, take, drop, length-append}
+use lib.ListN.{length, take, drop}
 use lib.Seq.{take-append-seam}
 use borrow.Author.Tests.{le-leb, le-ltb, eq-eqb}
-use Rattle.little_endian.specs.Numbers.{byteAt, u32At, le16, le32, le64, leF64}
-use Rattle.instrument_fields.specs.declared.Common.{Common}
+use Rattle.little_endian.specs.Numbers.{byteAt, u32At}
 use Rattle.instrument_fields.specs.declared.KeyDesign.{KeyDesign}
 use Rattle.instrument_fields.specs.declared.LoopDesign.{LoopDesign}
 use Rattle.counting.specs.Every.{every, everyAfter}
@@ -19,7 +18,7 @@ use Rattle.instrument_fields.specs.Ranges.{commonInRange, keyInRange, stringInR
 use Rattle.instrument_fields.specs.Unused.{noKey, noString, isNoKey, isNoString}
 use Rattle.instrument.specs.declared.Instrument.{Instrument}
 use Rattle.counting.specs.Below.{allBelow, sumBelow, gather, tabulate, pad}
-use Rattle.counting.specs.Laws.{all-build, sum-more, sum-bound, sum-same, length-tabulate, getD-tabulate, tabulate-cong, gather-cong, gather-runs, length-gather}
+use Rattle.counting.specs.Laws.{all-build, sum-more, sum-bound, sum-same, length-tabulate, getD-tabulate, tabulate-cong, gather-cong, gather-runs}
 use Rattle.instrument_file.specs.File.{offsetOf, lengthOf, section, keySection, headed, chained, linked, measured, measuredKey, fielded, fieldedKey, loopIn}
 use Rattle.instrument_file.specs.File.{keysIn, stringsIn, instrumentOf, accepted, readOf}
 use Rattle.instrument_file.specs.FileLaws.{countIn, runIn, keys-length, key-listed}
@@ -30,21 +29,8 @@ use Rattle.instrument_encoding.specs.Encode.{commonBytes, stringBytes, f
 use Rattle.instrument_encoding.specs.Typed.{FitKey, FitString, Typed}
 use Rattle.instrument_encoding.specs.Parts.{all-from, pad-is}
 use Rattle.instrument_encoding.specs.FieldsBack.{string-back, key-back, common-back, no-key, no-string}
+use Rattle.instrument_encoding.specs.Lengths.{common-length, head-length, string-length, key-length}
 use Rattle.instrument_encoding.specs.Placed.{StandsAt, at-gather, at-later, packed-length, section-at, count-back, off-back, len-back}
-
--- ---- lengths
-
-common-length : (c : Common) → length (commonBytes c) ≡ 76
-unfolding commonBytes leF64 le64 le32 le16
-common-length c = refl
-
-head-length : (k : KeyDesign) → length (headBytes k) ≡ 36
-unfolding headBytes fourBytes leF64 le64 le32 le16
-head-length k = refl
-
-string-length : (s : LoopDesign) → length (stringBytes s) ≡ 44
-unfolding stringBytes leF64 le64 le32 le16
-string-length s = refl
 
 -- ---- one key's section
 
@@ -55,15 +41,6 @@ flag-small false = refl
 module _ (k : KeyDesign) (s : ℕ → LoopDesign) where
   abbrev tail : List ℕ
   tail = gather (k .strings) (λ j. stringBytes (s j))
-
-  key-length : length (keyBytes k s) ≡ 36 + 44 * k .strings
-  unfolding keyBytes
-  key-length =
-      let a = length-append (headBytes k) tail in
-      let b = head-length k in
-      let c = length-gather (λ j. stringBytes (s j)) (λ j. 44) (λ j. string-length (s j)) (k .strings) in
-      let e = sum-same (k .strings) 44 in
-      omega arith
 
   read-key : FitKey k → keyOf (keyBytes k s) ≡ k
   unfolding keyBytes

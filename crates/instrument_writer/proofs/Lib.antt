@@ -1,0 +1,4 @@
+pub mod Stored
+pub mod Records
+pub mod Loops
+pub mod Whole
