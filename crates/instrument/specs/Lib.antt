@@ -1,4 +1,5 @@
 pub mod Valid
+pub mod KeyIndex
 pub mod ValidLaws
 pub mod Work
 pub mod WorkLaws

@@ -12,6 +12,7 @@ ghost use mathlib.Core.Bool.{true, not};
 ghost use Prim.Native.Nat.{_*_, _≤_, _<_};
 ghost use lib.Dec.{eqb};
 ghost use Rattle.instrument.specs.Valid.{keysInRange, stringSum, newKey, keysApart, keysUnused, stringsInRange, stringsUnused, counted, keysValid, stringsValid, valid};
+ghost use Rattle.instrument.specs.KeyIndex.{keyIndex};
 ghost use Rattle.instrument.specs.Work.{countedCells, countedPart};
 
 // The keys in the file's order, and their strings, key after key: key k's stand after those of the keys before it. Places past the counts hold zeros.
@@ -77,6 +78,22 @@ pub fn keys_apart(keys: [KeyDesign; 16], n: usize) -> bool
         all = all & is_new_key(keys, i);
     }
     all
+}
+
+// ---- the key of a number
+
+// The index of the key of that number; the number of keys where there is none.
+pub fn key_index(instrument: Instrument, key: u8) -> usize
+    requires { ⌜ instrument .«key_count» ≤ 16 ⌝ }
+    ensures { λ r. ⌜ r ≡ keyIndex (instrument .keys) 0 (instrument .«key_count») key ⌝ }
+{
+    for k in 0..instrument.key_count {
+        let d = instrument.keys[k];
+        if d.key == key {
+            return k;
+        }
+    }
+    instrument.key_count
 }
 
 // ---- refusal 7: an instrument handed in

@@ -7,6 +7,7 @@ use lib.Dec.{ltb}
 use lib.Ieee.{Float, binary64, add, sub, mul, div, lt}
 use Rattle.float.specs.Float.{zero as +0}
 use Rattle.instrument.specs.declared.Instrument.{Instrument}
+use Rattle.instrument.specs.KeyIndex.{keyIndex}
 use Rattle.string.specs.declared.StringDesign.{StringDesign}
 use Rattle.points.specs.declared.Constants.{Constants}
 use Rattle.points.specs.declared.HammerState.{HammerState}
@@ -18,7 +19,7 @@ use Rattle.sample_constants.specs.Model.{stringsOf, modelOf}
 use Rattle.score.specs.declared.Event.{Event}
 use Rattle.score.specs.declared.Event.the-variants.{NoteOn, NoteOff, Pedal, HandDamp}
 use Rattle.score.specs.declared.TimedEvent.{TimedEvent}
-use Rattle.score.specs.Events.{State, keyIndex, struckKey, heldTo, handDamped, pedalTo, isDown, applied, applyAll, clearedAll}
+use Rattle.score.specs.Events.{State, struckKey, heldTo, handDamped, pedalTo, isDown, applied, applyAll, clearedAll}
 use Rattle.score.specs.Score.{eventsAt}
 use Rattle.score.specs.Contacts.{hammerOn}
 use Rattle.render.specs.Steps.{stateAfter}

@@ -2,15 +2,15 @@
 use Rattle.float.specs.Float.{zero as +0}
 use mathlib.Core.List.{List, [], _∷_}
 use mathlib.Core.Bool.{Bool, true, false, cond, not, _&&_, _||_}
-use Prim.Native.Nat.{ℕ, zero, suc, _+_, _≤_, _<_}
+use Prim.Native.Nat.{ℕ, _≤_, _<_}
 use mathlib.Core.Path.{_≡_}
 use lib.Dec.{eqb, ltb}
 use lib.ListN.{length, getD, set}
 use lib.Ieee.{Float}
 use Rattle.cells.specs.Parts.{mapParts}
-use Rattle.instrument_fields.specs.declared.KeyDesign.{KeyDesign}
 use Rattle.instrument.specs.declared.Instrument.{Instrument}
 use Rattle.instrument.specs.Valid.{keyAt}
+use Rattle.instrument.specs.KeyIndex.{keyIndex}
 use Rattle.string.specs.declared.StringDesign.{StringDesign}
 use Rattle.string.specs.String.{sizeOf, atYS, atMemory}
 use Rattle.string.specs.Table.{tableStrings}
@@ -24,11 +24,6 @@ use Rattle.score.specs.declared.Piano.{Piano}
 pub record State : Type 0 where
   pub piano : Piano
   pub cells : List Float
-
--- the first of n keys from i on whose number is x; i + n where there is none
-unfoldable pub keyIndex : List KeyDesign → ℕ → ℕ → ℕ → ℕ
-keyIndex keys i zero x = i
-keyIndex keys i (suc n) x = cond (eqb (keyAt keys i .key) x) i (keyIndex keys (i + 1) n x)
 
 -- a string of key k forgets y_s and memory
 unfoldable pub cleared : ℕ → StringDesign → List Float → List Float

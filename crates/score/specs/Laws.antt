@@ -18,10 +18,11 @@ use Rattle.points.specs.declared.HammerState.{HammerState}
 use Rattle.points.specs.declared.HammerState.the-variants.{Resting, Flying}
 use Rattle.sample.specs.Sample.{CanCount, countedFor}
 use Rattle.instrument.specs.declared.Instrument.{Instrument}
+use Rattle.instrument.specs.KeyIndex.{keyIndex}
 use Rattle.score.specs.declared.Event.{Event}
 use Rattle.score.specs.declared.Event.the-variants.{NoteOn, NoteOff, Pedal, HandDamp}
 use Rattle.score.specs.declared.TimedEvent.{TimedEvent}
-use Rattle.score.specs.Events.{State, keyIndex, cleared, clearedOne, clearedAll, struckKey, heldTo, handDamped, pedalTo, onKey, applied, applyAll}
+use Rattle.score.specs.Events.{State, cleared, clearedOne, clearedAll, struckKey, heldTo, handDamped, pedalTo, onKey, applied, applyAll}
 use Rattle.score.specs.Score.{eventsAt, NextFrom}
 use Rattle.score.specs.Contacts.{hammerOn}
 

@@ -1,5 +1,6 @@
 // The score's events and what each does to the piano, and which of them act on a sample.
 use instrument::Instrument;
+use instrument::key_index;
 use points::HammerState;
 use sample::Motion;
 use string::StringDesign;
@@ -10,7 +11,7 @@ ghost use lib.ListN.{length, getD};
 ghost use Rattle.string.specs.String.{sizeOf};
 ghost use Rattle.string.specs.Table.{tableStrings};
 ghost use Rattle.strings.specs.Strings.{cellsOf};
-ghost use Rattle.score.specs.Events.{State, keyIndex, isDown, AllDown, cleared, clearedAll, struckKey, heldTo, handDamped, pedalTo, Playable, applied, applyAll};
+ghost use Rattle.score.specs.Events.{State, isDown, AllDown, cleared, clearedAll, struckKey, heldTo, handDamped, pedalTo, Playable, applied, applyAll};
 ghost use Rattle.score.specs.Score.{eventsOf, eventsAt, NextFrom};
 ghost use Rattle.score.specs.Contacts.{Totals};
 
@@ -46,20 +47,6 @@ pub struct Piano {
 pub struct Total {
     pub within: bool,
     pub sum: u64,
-}
-
-// The index of the key of that number; the number of keys where there is none.
-fn key_index(instrument: Instrument, key: u8) -> usize
-    requires { ⌜ instrument .«key_count» ≤ 16 ⌝ }
-    ensures { λ r. ⌜ r ≡ keyIndex (instrument .keys) 0 (instrument .«key_count») key ⌝ }
-{
-    for k in 0..instrument.key_count {
-        let d = instrument.keys[k];
-        if d.key == key {
-            return k;
-        }
-    }
-    instrument.key_count
 }
 
 // A string of key k forgets its contact.

@@ -11,6 +11,7 @@ use lib.ListN.{take, getD, length-take}
 use lib.Seq.{take-set-le, take-set-lt, getD-take, set-out}
 use Rattle.counting.specs.Laws.{lt-or-ge, sum-cong}
 use Rattle.instrument.specs.declared.Instrument.{Instrument}
+use Rattle.instrument.specs.KeyIndex.{keyIndex}
 use Rattle.points.specs.declared.HammerState.{HammerState}
 use Rattle.points.specs.declared.HammerState.the-variants.{Resting, Flying}
 use Rattle.sample.specs.Sample.{countedFor}
@@ -19,7 +20,7 @@ use Rattle.score.specs.declared.Event.{Event}
 use Rattle.score.specs.declared.Event.the-variants.{NoteOn, NoteOff, Pedal, HandDamp}
 use Rattle.score.specs.declared.TimedEvent.{TimedEvent}
 use Rattle.score.specs.declared.Piano.{Piano}
-use Rattle.score.specs.Events.{State, keyIndex, clearedAll, struckKey, heldTo, handDamped, pedalTo, onKey, applied, applyAll}
+use Rattle.score.specs.Events.{State, clearedAll, struckKey, heldTo, handDamped, pedalTo, onKey, applied, applyAll}
 use Rattle.score.specs.Score.{eventsAt}
 use Rattle.score.specs.Contacts.{contactsOf}
 use Rattle.render.specs.Steps.{stateAfter, values-each}

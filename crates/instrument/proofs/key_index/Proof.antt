@@ -1,9 +1,9 @@
--- `score::key_index` meets its contract. The loop's invariant: none of the keys below k has the number. Assumes nothing.
+-- The invariant: none of the keys below k has the number. Assumes nothing.
 use Prim.Native.Nat.{_-_}
 use native.Mathlib.Omega.{arith}
-use Rattle.score.proofs.Loops.{Sought, sought-start, sought-found, sought-turn, sought-end}
-use Rattle.score.proofs.key_index.Statement.{statement}
-use Rattle.score.proofs.key_index.Tie as tie
+use Rattle.instrument.proofs.Sought.{Sought, sought-start, sought-found, sought-turn, sought-end}
+use Rattle.instrument.proofs.key_index.Statement.{statement}
+use Rattle.instrument.proofs.key_index.Tie as tie
 
 abbrev Inv-loop : tie.InvT-loop
 Inv-loop key instrument k₀ k-end k = Sought (instrument .keys) (instrument .«key_count») key k
