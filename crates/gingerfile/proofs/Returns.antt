@@ -11,12 +11,17 @@ use lib.ListN.{length, take, getD, set, length-map, List·getD-map}
 use lib.Seq.{take-suc, take-suc-set, take-all}
 use borrow.Author.Tests.{eq-eqb, ne-eqb, eqb-true, eqb-false}
 use Rattle.counting.specs.Every.{and-left}
+use Rattle.counting.specs.Meets.{meets-refused, meets-accepted}
 use Rattle.instrument.specs.declared.Instrument.{Instrument}
 use Rattle.instrument_file.specs.declared.ReadAnswer.{ReadAnswer}
 use Rattle.instrument_file.specs.File.{readOf, accepted}
 use Rattle.instrument.specs.ValidLaws.{valid-counts}
 use Rattle.instrument.specs.Work.{countedPart}
 use Rattle.instrument_encoding.specs.Accepted.{accepted-valid}
+use Rattle.instrument_writer.specs.declared.WriteAnswer.{WriteAnswer}
+use Rattle.instrument_writer.specs.Write.{WriteMeets}
+use Rattle.weights.specs.declared.Weighed.{Weighed}
+use Rattle.weights.specs.Weights.{weightedBy, wholePairs}
 use Rattle.session_record.specs.declared.Session.{Session}
 use Rattle.session.specs.declared.Outcome.{Outcome}
 use Rattle.energies.specs.declared.EnergiesAnswer.{EnergiesAnswer}
@@ -27,6 +32,7 @@ use Rattle.session_words.specs.Session.{sessionOf, isSession, isEvent, ReadMeet
 use Rattle.gingerfile.specs.declared.Begun.{Begun}
 use Rattle.gingerfile.specs.declared.Report.{Report}
 use Rattle.gingerfile.specs.declared.KeyEnergies.{KeyEnergies}
+use Rattle.gingerfile.specs.Adjust.{writtenAs, AdjustMeets}
 use Rattle.gingerfile.specs.Energies.{noEnergies, flatOf, EnergiesCross}
 use Rattle.gingerfile.specs.Crossing.{refusedBy, reportOf, sizesOf, handedRefusal, Begins, Keeps, Crosses}
 
@@ -172,6 +178,25 @@ module _ (f w : List ℕ) {g : ReadAnswer} {n : ℕ} (eg : g ≡ readOf f) (en :
 
     pub open-made : n ≡ 0 → {w′ : List ℕ} {o : Outcome} → Promise (g .instrument) (sessionOf w) o → Keeps o w r w′ → Crosses f (eqb (length w) sessionSize) w r w′ Stays Promise
     open-made h {w′} {o} p keeps = crosses-called refusal-is h (subst (λ (x : ReadAnswer). Promise (x .instrument) (sessionOf w) o) eg p) keeps
+
+-- ---- an adjusted file
+
+module _ (f keys : List ℕ) (weights : List Float) {g : ReadAnswer} {x : Weighed} {n : ℕ} (eg : g ≡ readOf f)
+    (ex : x ≡ record { «is_whole» = wholePairs (g .instrument) keys weights; instrument = weightedBy (g .instrument) keys weights })
+    (en : n ≡ handedRefusal (g .refusal) (x .«is_whole»)) where
+  adjust-number : n ≡ handedRefusal (readOf f .refusal) (wholePairs (readOf f .instrument) keys weights)
+  adjust-number = rw (← eg) (en ∙ ap (λ (y : Weighed). handedRefusal (g .refusal) (y .«is_whole»)) ex)
+
+  adjusted-is : x .instrument ≡ weightedBy (readOf f .instrument) keys weights
+  adjusted-is = rw (← eg) (ap (λ (y : Weighed). y .instrument) ex)
+
+  module _ {out : List ℕ} {r : Report} where
+    pub adjust-refused : (n ≡ 0 → ⊥) → r ≡ refusedBy n → AdjustMeets f keys weights out r out
+    adjust-refused h er = meets-refused n adjust-number h (er, refl)
+
+    pub adjust-saved : n ≡ 0 → {a : WriteAnswer} {out′ : List ℕ} → WriteMeets (x .instrument) out a out′ → r ≡ writtenAs a → AdjustMeets f keys weights out r out′
+    adjust-saved h {a} {out′} m er =
+        meets-accepted n adjust-number h (record { answer = a; meets = subst (λ (i : Instrument). WriteMeets i out a out′) adjusted-is m; report = er })
 
 -- ---- energies in flat arrays
 

@@ -1,5 +1,6 @@
 // The piano for a program in C or Rust: numbers and lent slices alone cross. The instrument crosses as its file's bytes, the session as 616 words (crate session_words), an event by its
-// numbers. Each call reads the file and the words, makes the session's call, and writes the words; a refused call changes nothing, the words neither.
+// numbers. Each call reads the file and the words, makes the session's call, and writes the words; a refused call changes nothing, the words neither. `gingerfile_adjust` has no session: it
+// reads a file and writes one.
 ghost use mathlib.Core.Path.{_≡_};
 ghost use mathlib.Core.Bool.{_&&_};
 ghost use lib.Dec.{eqb};
@@ -10,6 +11,7 @@ ghost use Rattle.session.specs.Calls.{OpenMeets, PlayMeets, CueMeets, GoMeets, 
 ghost use Rattle.session_words.specs.Layout.{sessionSize};
 ghost use Rattle.session_words.specs.Session.{eventOf, isEvent, isSession};
 ghost use Rattle.gingerfile.specs.Crossing.{refusedBy, reportOf, sizesOf, handedRefusal, Begins, Keeps, Crosses};
+ghost use Rattle.gingerfile.specs.Adjust.{AdjustMeets};
 ghost use Rattle.gingerfile.specs.Energies.{noEnergies, flatOf, EnergiesCross};
 use energies::KeyEnergy;
 use instrument::Instrument;
@@ -18,8 +20,8 @@ use session::Answer;
 use session::Outcome;
 use session_record::Session;
 
-// What a call answers: the refusal's number, 0 for none; play's number of forces, go's number of samples or an edit's t; an edit's number of cues dropped; and play's contact samples of all
-// keys at the new position.
+// What a call answers: the refusal's number, 0 for none; play's number of forces, go's number of samples, an edit's t or the length of an adjusted file; an edit's number of cues dropped;
+// and play's contact samples of all keys at the new position.
 #[repr(C)]
 pub struct Report {
     pub refusal: u64,
@@ -356,6 +358,34 @@ pub extern "C" fn gingerfile_energies(file: &[u8], words: &[u64], work: &[f64]) 
     let found = answer.energies;
     let pairs = found.keys;
     flat_of(answer.refusal, found.count, pairs)
+}
+
+// The file with other weights, pair by pair: the key of that number gets the weight. 7 where there are not as many weights as keys, the file has not every key, or a weight is out of its
+// range; 20 where the bytes lent are fewer than the file's.
+#[no_mangle]
+pub extern "C" fn gingerfile_adjust(
+    file: &[u8],
+    keys: &[u8],
+    weights: &[f64],
+    out: &mut [u8],
+) -> Report
+    ensures { λ r. ⌜ AdjustMeets (now (file .entry)) (now (keys .entry)) (now (weights .entry)) (now (out .entry)) r (now (out .exit)) ⌝ }
+{
+    let given = instrument_file::read(file);
+    let read = given.instrument;
+    let adjusted = weights::set_weights(read, keys, weights);
+    let number = handed_refusal(given.refusal, adjusted.is_whole);
+    if number != 0 {
+        return refused(number);
+    }
+    let instrument = adjusted.instrument;
+    let answer = instrument_writer::write(instrument, out);
+    Report {
+        refusal: answer.refusal as u64,
+        value: answer.length as u64,
+        dropped: 0,
+        contacts: 0,
+    }
 }
 
 // How many samples the decimator makes of n.
