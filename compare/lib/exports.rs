@@ -21,6 +21,7 @@ pub struct Lent<'a> {
 // ---- the record as it crosses
 
 #[repr(C)]
+#[derive(Clone, Copy)]
 struct KeyRow {
     key: u8,
     has_damper: bool,
@@ -29,14 +30,17 @@ struct KeyRow {
 }
 
 #[repr(C)]
+#[derive(Clone, Copy)]
 struct StringRow {
     n: usize,
     ap_count: usize,
     floats: [f64; 5],
 }
 
+/// A record as it crosses.
 #[repr(C)]
-struct Crossing {
+#[derive(Clone, Copy)]
+pub struct Crossing {
     floats: [f64; 9],
     exponent: u32,
     key_count: usize,
@@ -53,12 +57,18 @@ struct Reading {
     work_cells: usize,
 }
 
+#[repr(C)]
+struct Writing {
+    refusal: u32,
+    length: usize,
+}
+
 fn floats_at<const N: usize>(record: &Record, at: usize) -> [f64; N] {
     record.floats[at..at + N].try_into().unwrap()
 }
 
 impl Crossing {
-    fn of(record: &Record) -> Crossing {
+    pub fn of(record: &Record) -> Crossing {
         let number = |i: usize| record.numbers[i] as usize;
         Crossing {
             floats: floats_at(record, 0),
@@ -114,11 +124,23 @@ impl Record {
     pub fn is_given(&self) -> bool {
         instrument_test(Crossing::of(self))
     }
+
+    /// What the proved writer answers: the refusal's number, 0 for none, and the length of the file that it has written.
+    pub fn write(&self, bytes: &mut [u8]) -> (u32, usize) {
+        writes(&Crossing::of(self), bytes)
+    }
 }
 
 /// The reading alone, for the bench.
 pub fn reads(file: &[u8]) -> u32 {
     std::hint::black_box(call!(instrument_read, [file], [])).refusal
+}
+
+/// The writing alone.
+pub fn writes(record: &Crossing, bytes: &mut [u8]) -> (u32, usize) {
+    // SAFETY: as `call!` says; the record stands ahead of the slice.
+    let Writing { refusal, length } = unsafe { instrument_write(*record, bytes.as_mut_ptr(), bytes.len()) };
+    (refusal, length)
 }
 
 // ---- the library
@@ -155,6 +177,7 @@ extern "C" {
     fn leaf_force_sweep(c0: *mut f64, count: usize, stiffness: f64, exponent: u32, eps_r: f64, c1: f64);
     fn leaf_row_run(cells: *mut f64, cell_count: usize, block: *mut f64, block_count: usize, a: f64);
     fn instrument_read(file: *const u8, file_length: usize) -> Reading;
+    fn instrument_write(record: Crossing, bytes: *mut u8, bytes_length: usize) -> Writing;
     fn session_plays(
         file: *const u8, file_length: usize, words: *const u64, words_length: usize,
         work: *mut f64, work_length: usize, scratch: *mut f64, scratch_length: usize,

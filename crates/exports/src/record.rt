@@ -1,4 +1,4 @@
-// The reader, and refusal 7's test, with every field of the record across: the instrument's own structs do not cross.
+// The reader, refusal 7's test and the writer, with every field of the record across: the instrument's own structs do not cross.
 use hammer::Hammer;
 use instrument::Instrument;
 use instrument_fields::Common;
@@ -59,6 +59,13 @@ pub struct Reading {
     pub record: Record,
     pub part_cells: usize,
     pub work_cells: usize,
+}
+
+// The refusal's number, 0 for none; the file's length.
+#[repr(C)]
+pub struct Writing {
+    pub refusal: u32,
+    pub length: usize,
 }
 
 // ---- out
@@ -214,21 +221,36 @@ fn strings_of(rows: [StringRow; 32]) -> [LoopDesign; 32] {
     strings
 }
 
-// Whether some accepted file gives the record.
-#[no_mangle]
-pub extern "C" fn instrument_test(record: Record) -> bool {
+fn instrument_of(record: Record) -> Instrument {
     let common_row = record.common;
     let key_rows = record.keys;
     let string_rows = record.strings;
     let common = common_of(common_row);
     let keys = keys_of(key_rows);
     let strings = strings_of(string_rows);
-    let instrument = Instrument {
+    Instrument {
         common,
         key_count: record.key_count,
         string_count: record.string_count,
         keys,
         strings,
-    };
+    }
+}
+
+// Whether some accepted file gives the record.
+#[no_mangle]
+pub extern "C" fn instrument_test(record: Record) -> bool {
+    let instrument = instrument_of(record);
     instrument_encoding::is_given(instrument)
+}
+
+// The record's file, into the first of the bytes.
+#[no_mangle]
+pub extern "C" fn instrument_write(record: Record, bytes: &mut [u8]) -> Writing {
+    let instrument = instrument_of(record);
+    let answer = instrument_writer::write(instrument, bytes);
+    Writing {
+        refusal: answer.refusal,
+        length: answer.length,
+    }
 }
