@@ -1,12 +1,18 @@
-//! Compares the proved reader of instrument files and refusal 7's test of a record with ordinary Rust, on generated files
-//! and records, bit for bit, unused places too. `instrument data FOLDER` writes the files that the program test_instrument
-//! reads, and beside FOLDER what it must say of them.
+//! Compares the proved reader of instrument files, refusal 7's test of a record and the writer with ordinary Rust, on
+//! generated files and records, bit for bit, unused places too; every accepted file is written back. `instrument data FOLDER`
+//! writes the files that the program test_instrument reads, and beside FOLDER what it must say of them.
+
+mod writer;
 
 use comparison::design::LoopDesign;
 use comparison::exports::Record;
 use comparison::instrument::{chained, read, Common, Instrument, Key, COMMON_RANGES, KEY_RANGES, STRING_RANGES};
 use std::collections::BTreeMap;
 use std::process::exit;
+use writer::{answer, file_of, Writings};
+
+/// The files that the program test_instrument reads, by their folder.
+const STORED: &str = "crates/test_instrument/data";
 
 /// A generator by Vigna's xorshift64*, by which the stored files were drawn.
 struct Rng(u64);
@@ -257,6 +263,7 @@ struct Run {
     files: usize,
     kinds: BTreeMap<&'static str, usize>,
     answers: [usize; 7],
+    writings: Writings,
 }
 
 impl Run {
@@ -275,6 +282,9 @@ impl Run {
             println!("the Rust side disagrees with itself on kind '{kind}'");
             exit(1);
         }
+        if want == 0 {
+            self.writings.back(&found, f);
+        }
         self.files += 1;
         *self.kinds.entry(kind).or_insert(0) += 1;
         self.answers[want as usize] += 1;
@@ -283,7 +293,8 @@ impl Run {
 }
 
 fn files(rng: &mut Rng) -> Run {
-    let mut run = Run { files: 0, kinds: BTreeMap::new(), answers: [0; 7] };
+    let mut run =
+        Run { files: 0, kinds: BTreeMap::new(), answers: [0; 7], writings: Writings::new(0x5851F42D4C957F2D) };
     for _ in 0..3000 {
         let r = any_record(rng);
         run.file("random instrument", &chained(&sections(&r)));
@@ -407,7 +418,44 @@ fn files(rng: &mut Rng) -> Run {
         }
         run.file("random bytes", &f);
     }
+    for name in std::fs::read_to_string(STORED.to_string() + "/../args").unwrap().lines() {
+        // one is not there
+        if let Ok(f) = std::fs::read(format!("{STORED}/{name}")) {
+            run.file("stored", &f);
+        }
+    }
     run
+}
+
+/// Sets some fields of a record to anything.
+fn set_to_anything(rng: &mut Rng, r: &mut Record) {
+    for _ in 0..rng.below(3) {
+        match rng.below(8) {
+            0 => r.numbers[rng.below(3)] = [0, 1, 2, 10, 11, 16, 17, 32, 33, u64::MAX][rng.below(10)],
+            1 => r.numbers[3 + rng.below(48)] = [0, 1, 2, 3, 4, 255, u64::MAX][rng.below(7)],
+            2 => r.numbers[51 + rng.below(64)] = [0, 3, 4, 66, 67, 2000, 2001, u64::MAX][rng.below(8)],
+            3 => {
+                let e = edges((0.0, [1.0, 2.0, 100.0, 1000.0, 4096.0, 1e15, 400000.0][rng.below(7)]));
+                r.floats[rng.below(233)] = e[rng.below(e.len())];
+            }
+            4 => r.floats[rng.below(233)] = SPECIAL[rng.below(8)],
+            5 => {
+                let (a, b) = (rng.below(16), rng.below(16));
+                r.numbers[3 + 3 * a] = r.numbers[3 + 3 * b];
+            }
+            6 => {
+                let a = 2 * rng.below(32);
+                r.numbers[51 + a] = 4 + rng.below(1997) as u64;
+            }
+            _ => r.floats[73 + rng.below(160)] = rng.unit(),
+        }
+    }
+    // has_damper crosses as 1 or not 1, the key as a byte, the exponent as a u32
+    for i in 0..16 {
+        r.numbers[3 + 3 * i] %= 256;
+        r.numbers[4 + 3 * i] = (r.numbers[4 + 3 * i] == 1) as u64;
+    }
+    r.numbers[2] &= 0xffff_ffff;
 }
 
 /// Refusal 7 on records with fields set to anything.
@@ -415,33 +463,7 @@ fn records(rng: &mut Rng) -> [usize; 2] {
     let mut seen = [0; 2];
     for _ in 0..40000 {
         let mut r = any_record(rng);
-        for _ in 0..rng.below(3) {
-            match rng.below(8) {
-                0 => r.numbers[rng.below(3)] = [0, 1, 2, 10, 11, 16, 17, 32, 33, u64::MAX][rng.below(10)],
-                1 => r.numbers[3 + rng.below(48)] = [0, 1, 2, 3, 4, 255, u64::MAX][rng.below(7)],
-                2 => r.numbers[51 + rng.below(64)] = [0, 3, 4, 66, 67, 2000, 2001, u64::MAX][rng.below(8)],
-                3 => {
-                    let e = edges((0.0, [1.0, 2.0, 100.0, 1000.0, 4096.0, 1e15, 400000.0][rng.below(7)]));
-                    r.floats[rng.below(233)] = e[rng.below(e.len())];
-                }
-                4 => r.floats[rng.below(233)] = SPECIAL[rng.below(8)],
-                5 => {
-                    let (a, b) = (rng.below(16), rng.below(16));
-                    r.numbers[3 + 3 * a] = r.numbers[3 + 3 * b];
-                }
-                6 => {
-                    let a = 2 * rng.below(32);
-                    r.numbers[51 + a] = 4 + rng.below(1997) as u64;
-                }
-                _ => r.floats[73 + rng.below(160)] = rng.unit(),
-            }
-        }
-        // has_damper crosses as 1 or not 1, the key as a byte, the exponent as a u32
-        for i in 0..16 {
-            r.numbers[3 + 3 * i] %= 256;
-            r.numbers[4 + 3 * i] = (r.numbers[4 + 3 * i] == 1) as u64;
-        }
-        r.numbers[2] &= 0xffff_ffff;
+        set_to_anything(rng, &mut r);
         let (want, got) = (is_given(&r), r.is_given());
         if got != want {
             println!("DIFFERENT on a record: {got} for {want}: {:?} {:?}", r.numbers, r.floats);
@@ -454,7 +476,7 @@ fn records(rng: &mut Rng) -> [usize; 2] {
 
 fn compare() {
     let mut rng = Rng(0x9E3779B97F4A7C15);
-    let run = files(&mut rng);
+    let mut run = files(&mut rng);
     for (kind, n) in &run.kinds {
         println!("{n:6}  {kind}");
     }
@@ -464,7 +486,10 @@ fn compare() {
     }
     let seen = records(&mut rng);
     println!("{} records tested: passed {}, refused 7 {}", seen[0] + seen[1], seen[0], seen[1]);
-    let enough = run.files >= 20000 && run.answers.iter().all(|&n| n >= 200) && seen.iter().all(|&n| n >= 200);
+    writer::compare(&mut rng, &mut run.writings);
+    let mut enough = run.writings.report();
+    enough &= run.files >= 20000 && run.answers.iter().all(|&n| n >= 200) && seen.iter().all(|&n| n >= 200);
+    enough &= run.kinds["stored"] >= 15;
     println!("{}", if enough { "no difference" } else { "TOO FEW of some kind" });
     if !enough {
         exit(1);
@@ -504,7 +529,7 @@ fn data(dir: &str) {
     let mut lines = BTreeMap::new();
     let mut save = |name: &str, f: &[u8]| {
         std::fs::write(format!("{dir}/{name}"), f).unwrap();
-        lines.insert(name.to_string(), line(f));
+        lines.insert(name.to_string(), said(name, f));
     };
     save("example", &example().bytes());
     let full = sections(&record(&mut rng, &[2; 16]));
@@ -541,18 +566,20 @@ fn data(dir: &str) {
     let mut s = three.clone();
     s[3][0] = s[1][0];
     save("key_twice", &chained(&s));
-    // what the program must write for its arguments, by the ordinary reader
+    // what the program must write for its arguments, by the ordinary reader and writer
     let args = std::fs::read_to_string(format!("{dir}/../args")).unwrap();
-    let told = |name: &str| lines.get(name).cloned().unwrap_or("not there".to_string());
-    let out: String = args.lines().map(|name| format!("{name}: {}\n", told(name))).collect();
+    let told = |name: &str| lines.get(name).cloned().unwrap_or(format!("{name}: not there\n"));
+    let out: String = args.lines().map(told).collect();
     std::fs::write(format!("{dir}/../stdout"), out).unwrap();
 }
 
-fn line(f: &[u8]) -> String {
+/// What is said of a file: its refusal, or what it gives, and how it is written back.
+fn said(name: &str, f: &[u8]) -> String {
     match read(f) {
         Ok(instrument) => {
             let (keys, strings, cells) = (instrument.keys.len(), instrument.string_count(), instrument.cells());
-            format!("keys {keys}, strings S = {strings}, cells W = {cells}, work memory {}", 5 * cells)
+            let counts = format!("keys {keys}, strings S = {strings}, cells W = {cells}, work memory {}", 5 * cells);
+            format!("{name}: {counts}, {}", said_back(name, &record_of(&instrument), f))
         }
         Err(n) => {
             let words = [
@@ -563,9 +590,29 @@ fn line(f: &[u8]) -> String {
                 "more than 32 strings",
                 "a key number comes twice",
             ];
-            format!("refused {n}: {}", words[n as usize - 1])
+            format!("{name}: refused {n}: {}\n", words[n as usize - 1])
         }
     }
+}
+
+/// A file written back into more bytes than any has; then into one fewer than it has, and with the last key's place spoiled.
+fn said_back(name: &str, r: &Record, f: &[u8]) -> String {
+    let mut other = r.clone();
+    other.floats[9 + 4 * 15] = -1.0;
+    let (right, wrong) = (file_of(r), file_of(&other));
+    let (_, written) = answer(right.as_deref(), 2201);
+    assert_eq!(written, f, "the Rust side disagrees with itself on '{name}'");
+    let refused = |what: &str, file: &Option<Vec<u8>>, length: usize| {
+        let (number, _) = answer(file.as_deref(), length);
+        format!("{name}, {what}: refused {number}, untouched\n")
+    };
+    let lines = [
+        format!("written {}, same\n", written.len()),
+        refused("one byte short", &right, f.len() - 1),
+        refused("a place spoiled", &wrong, 2201),
+        refused("both", &wrong, f.len() - 1),
+    ];
+    lines.concat()
 }
 
 fn main() {

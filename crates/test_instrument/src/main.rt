@@ -1,8 +1,10 @@
-// Reads each file that its arguments name as document 01's instrument file, and writes a line for it: what was read, with S and W, or the refusal's number and words.
+// Reads each file that its arguments name as document 01's instrument file, and writes a line for it: what was read, with S and W, or the refusal's number and words. An accepted file is written
+// again from its record, and every byte compared; then into one byte fewer than it has, and from a record with a spoiled place: each is refused, and no byte may change.
 use instrument::Instrument;
 use instrument::is_valid;
 use instrument::part_cells;
 use instrument::work_cells;
+use instrument_writer::LONGEST;
 use libc::STDOUT_FILENO;
 
 fn say(words: &[u8]) {
@@ -33,11 +35,75 @@ fn say_instrument(i: Instrument) {
     say_number(b", strings S = ", i.string_count);
     say_number(b", cells W = ", part_cells(i));
     say_number(b", work memory ", work_cells(i));
-    if is_valid(i) {
-        say(b"\n");
-    } else {
-        say(b", refused 7\n");
+    if !is_valid(i) {
+        say(b", refused 7");
     }
+}
+
+// ---- the file again
+
+// What every byte holds that the writer is lent.
+const LENT: u8 = 0xa5;
+
+// The first byte that is not the file's or, past the file, not as it was lent; the number of bytes where each is.
+fn first_wrong(bytes: &[u8], file: &[u8]) -> usize {
+    let mut k = 0usize;
+    while k < bytes.len() {
+        let wanted = if k < file.len() { file[k] } else { LENT };
+        if bytes[k] != wanted {
+            return k;
+        }
+        k += 1;
+    }
+    k
+}
+
+// Writes a record into lent bytes; says what the writer answers, then `right` where the bytes are the file's.
+fn say_writing(i: Instrument, bytes: &mut [u8], file: &[u8], right: &[u8]) {
+    let answer = instrument_writer::write(i, bytes);
+    if answer.refusal == 0 {
+        say_number(b"written ", answer.length);
+    } else {
+        say_number(b"refused ", answer.refusal as usize);
+    }
+    let wrong = first_wrong(bytes, file);
+    if wrong < bytes.len() {
+        say_number(b", wrong from byte ", wrong);
+        say(b" on\n");
+    } else {
+        say(right);
+    }
+}
+
+// No place of a record may hold this weight, used or unused.
+fn spoiled(instrument: Instrument) -> Instrument {
+    let mut i = instrument;
+    i.keys[15].weight = -1.0;
+    i
+}
+
+fn say_refused(path: &[u8], words: &[u8], i: Instrument, bytes: &mut [u8]) {
+    say(path);
+    say(words);
+    say_writing(i, bytes, b"", b", untouched\n");
+}
+
+// One byte more than any file has is lent, and one fewer than this one has.
+fn say_again(path: &[u8], i: Instrument, file: &[u8]) {
+    let n = file.len();
+    if n < 1 {
+        return;
+    }
+    if LONGEST < n {
+        return;
+    }
+    let mut bytes = [LENT; 2201];
+    say_writing(i, &mut bytes, file, b", same\n");
+    let mut others = [LENT; 2201];
+    let wrong = spoiled(i);
+    say_refused(path, b", one byte short: ", i, &mut others[..n - 1]);
+    say_refused(path, b", a place spoiled: ", wrong, &mut others);
+    say_refused(path, b", both: ", wrong, &mut others[..n - 1]);
 }
 
 // An accepted file has at most 2,200 bytes, so that a file that fills the buffer is none.
@@ -52,10 +118,13 @@ fn read_one(path: &[u8]) {
     let mut bytes = io::large_buffer();
     let n = io::read_full(fd, &mut bytes);
     libc::close(fd);
-    let answer = instrument_file::read(&bytes[..n]);
+    let file = &bytes[..n];
+    let answer = instrument_file::read(file);
     let i = answer.instrument;
     if answer.refusal == 0 {
         say_instrument(i);
+        say(b", ");
+        say_again(path, i, file);
     } else {
         say_refusal(answer.refusal);
     }
