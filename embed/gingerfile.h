@@ -21,7 +21,8 @@
 
     1 to 6  the file: table, chain, lengths, fields, over 32 strings, a key twice
     7       the words are no session's on this instrument, or an event's numbers no event's; words kept by an earlier version,
-            541 with one count for all keys, are none
+            541 with one count for all keys, are none. Of gingerfile_adjust: there are not as many weights as keys, the instrument has
+            no such key, or a weight is NaN or outside 0 to 100
     8       work memory has fewer cells than gingerfile_read says
     9       scratch has fewer cells than gingerfile_read says
    10       the trace is shorter than the output
@@ -33,7 +34,8 @@
    16       a go would replay more than 1,000,000 samples
    17       the factor exceeds 64 or the input 1,048,576 samples
    18       there are not 127 taps
-   19       the decimator's output has another length than gingerfile_decimated says */
+   19       the decimator's output has another length than gingerfile_decimated says
+   20       the bytes lent for a file are fewer than it has */
 #ifndef GINGERFILE_H
 #define GINGERFILE_H
 
@@ -71,12 +73,15 @@ enum {
    which has its own needs beside them. */
 enum { GINGERFILE_STACK = 53248, GINGERFILE_THREAD = 65536 };
 
+/* Bytes of the longest file that an instrument has: 16 keys and 32 strings. */
+enum { GINGERFILE_LONGEST_FILE = 2200 };
+
 /* Kinds of an event; the pedal's key is 1 for down, 0 for up. The numbers do not say which acts first. */
 enum { GINGERFILE_STRIKE = 0, GINGERFILE_RELEASE = 1, GINGERFILE_PEDAL = 2, GINGERFILE_HAND_DAMP = 3 };
 
 typedef struct {
     uint64_t refusal;
-    /* play: the number of forces; go: the number of samples replayed; insert and remove: t. */
+    /* play: the number of forces; go: the number of samples replayed; insert and remove: t; adjust: the new file's bytes. */
     uint64_t value;
     /* insert and remove: the number of cues dropped. */
     uint64_t dropped;
@@ -138,6 +143,12 @@ typedef struct {
 /* Each key's energy now. Nothing is written. Refuses 1 to 8. */
 gingerfile_key_energies gingerfile_energies(const uint8_t *file, size_t file_length, const uint64_t *words,
                                             size_t words_length, const double *work, size_t work_length);
+
+/* Writes the instrument's file anew with other weights into `out`: key keys[i] gets weights[i], and where a key comes twice the later
+   weight stands. Answers the new file's length, at most GINGERFILE_LONGEST_FILE; bytes of `out` beyond it stay as they were.
+   Refuses 1 to 7 and 20. */
+gingerfile_report gingerfile_adjust(const uint8_t *file, size_t file_length, const uint8_t *keys, size_t keys_length,
+                                    const double *weights, size_t weights_length, uint8_t *out, size_t out_length);
 
 /* How many samples the decimator makes of n. */
 size_t gingerfile_decimated(size_t n, size_t factor);

@@ -20,10 +20,11 @@ enum { PAGE = 4096, WIDE = 256 * 1024, PAINT = 0xa5 };
 /* All that the calls are lent; the processes share it. */
 static struct {
     uint8_t file[4096];
-    size_t length, work_length, scratch_length, touched;
+    size_t length, key_count, work_length, scratch_length, touched;
     uint64_t words[GINGERFILE_WORDS], refusal;
     double work[5 * 32 * (2 * 2000 + 2 * 66 + 5)], scratch[6 * 32], out[64], trace[64];
-    double x[640], taps[127], decimated[10];
+    double x[640], taps[127], decimated[10], weights[16];
+    uint8_t keys[16], adjusted[GINGERFILE_LONGEST_FILE];
 } *lent;
 
 #define SESSION lent->file, lent->length, lent->words, GINGERFILE_WORDS, lent->work, lent->work_length
@@ -49,6 +50,7 @@ static void put_instrument(uint32_t keys, uint8_t strings, uint16_t n, uint16_t 
     const double key[4] = {0.3, 1, 0.12, 0.3}, string[5] = {3, 0.1, -0.6, 0.998, 0.1};
     const uint32_t sections = keys + 1, h = 5, first = 4 + 8 * sections, size = 36 + 44 * strings;
     lent->length = 0;
+    lent->key_count = keys;
     put(&sections, 4);
     put_pair(first, 76);
     for (uint32_t k = 0; k < keys; k++)
@@ -57,6 +59,7 @@ static void put_instrument(uint32_t keys, uint8_t strings, uint16_t n, uint16_t 
     put(&h, 4);
     for (uint32_t k = 0; k < keys; k++) {
         const uint8_t head[4] = {(uint8_t)(40 + k), 1, strings, 0};
+        lent->keys[k] = head[0];
         put(head, 4);
         put(key, sizeof key);
         for (uint8_t s = 0; s < strings; s++) {
@@ -77,6 +80,12 @@ static void call_go(void) { lent->refusal = gingerfile_go(SESSION, SCRATCH, 40).
 static void call_insert(void) { lent->refusal = gingerfile_insert(SESSION, 35, GINGERFILE_STRIKE, 40, 2.0).refusal; }
 static void call_remove(void) { lent->refusal = gingerfile_remove(SESSION, 1).refusal; }
 static void call_energies(void) { lent->refusal = gingerfile_energies(SESSION).refusal; }
+static void call_adjust(void)
+{
+    const size_t count = lent->key_count;
+    lent->refusal = gingerfile_adjust(lent->file, lent->length, lent->keys, count, lent->weights, count, lent->adjusted,
+                                      GINGERFILE_LONGEST_FILE).refusal;
+}
 static void call_decimated(void) { lent->refusal = gingerfile_decimated(640, 64) != 10; }
 static void call_decimate(void)
 {
@@ -88,8 +97,8 @@ static const struct {
     void (*make)(void);
 } calls[] = {{"read", call_read},         {"open", call_open},     {"play", call_play},
              {"cue", call_cue},           {"go", call_go},         {"insert", call_insert},
-             {"remove", call_remove},     {"energies", call_energies}, {"decimated", call_decimated},
-             {"decimate", call_decimate}};
+             {"remove", call_remove},     {"energies", call_energies}, {"adjust", call_adjust},
+             {"decimated", call_decimated}, {"decimate", call_decimate}};
 
 enum { CALLS = sizeof calls / sizeof *calls };
 

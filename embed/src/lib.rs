@@ -28,8 +28,8 @@
 //! # Real time
 //!
 //! [`play`](Console::play), [`cue`](Console::cue), [`go`](Console::go), [`insert`](Console::insert),
-//! [`remove`](Console::remove), [`key_energies`](Console::key_energies) and [`decimate_into`] allocate nothing, take no lock
-//! and make no system call. Each needs at most [`STACK`] bytes of stack below the caller's frame. A go may replay up to
+//! [`remove`](Console::remove), [`key_energies`](Console::key_energies), [`decimate_into`] and [`adjust_into`] allocate nothing,
+//! take no lock and make no system call. Each needs at most [`STACK`] bytes of stack below the caller's frame. A go may replay up to
 //! 1,000,000 samples before it returns.
 //!
 //! # Floats
@@ -44,7 +44,9 @@ mod console;
 mod decimator;
 mod float;
 mod refusal;
+mod weights;
 
 pub use console::{Console, Edited, Event, KeyEnergies, Played, CONTACT_SAMPLES, PIANO, STACK, T, WORDS};
 pub use decimator::{decimate, decimate_into, decimated_length};
 pub use refusal::Refusal;
+pub use weights::{adjust, adjust_into, LONGEST_FILE};

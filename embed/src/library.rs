@@ -44,6 +44,10 @@ extern "C" {
     pub fn gingerfile_energies(
         file: *const u8, file_length: usize, words: *const u64, words_length: usize, work: *const f64, work_length: usize,
     ) -> KeyEnergies;
+    pub fn gingerfile_adjust(
+        file: *const u8, file_length: usize, keys: *const u8, keys_length: usize, weights: *const f64, weights_length: usize,
+        out: *mut u8, out_length: usize,
+    ) -> Report;
     pub fn gingerfile_decimated(n: usize, factor: usize) -> usize;
     pub fn gingerfile_decimate(
         x: *const f64, x_length: usize, taps: *const f64, taps_length: usize, factor: usize, out: *mut f64, out_length: usize,

@@ -3,7 +3,7 @@
 use std::error::Error;
 use std::fmt;
 
-/// Why a call was refused: a number from 1 to 19. A refused call has changed nothing.
+/// Why a call was refused: a number from 1 to 20. A refused call has changed nothing.
 ///
 /// Each number has a constant, which can stand in a pattern:
 ///
@@ -48,7 +48,7 @@ refusals! {
     4 FIELDS "a field is out of range", "A field of the file is out of range, NaN or infinite";
     5 TOO_MANY_STRINGS "more than 32 strings", "The file has more than 32 strings";
     6 KEY_TWICE "a key comes twice", "The file has two keys of one number";
-    7 RECORD "the instrument or the session is wrong", "The words are no session's, or no session's on this instrument";
+    7 RECORD "the instrument or the session is wrong", "The words are no session's, or no session's on this instrument; for [`adjust`](crate::adjust), the keys and weights are none that the instrument can have";
     8 WORK "work memory is too short", "Work memory has another length than the instrument asks for";
     9 SCRATCH "scratch is too short", "Scratch is too short; a [`Console`](crate::Console) has enough";
     10 TRACE "the trace is shorter than the output", "The trace is shorter than the output";
@@ -61,10 +61,11 @@ refusals! {
     17 FACTOR "the factor is above 64, or the input longer than 1048576 samples", "The decimator's factor is above 64, or its input longer than 1,048,576 samples";
     18 TAPS "there are not 127 taps", "The decimator was not given 127 taps";
     19 OUTPUT "the output has a wrong length", "The decimator's output has another length than [`decimated_length`](crate::decimated_length) says";
+    20 BYTES "the lent bytes are fewer than the file", "The bytes that are lent for an instrument's file are fewer than it has";
 }
 
 impl Refusal {
-    /// The number, 1 to 19.
+    /// The number, 1 to 20.
     pub fn number(self) -> u64 {
         self.0
     }

@@ -2,7 +2,7 @@
 
 mod common;
 
-use gingerfile::{Console, Refusal, CONTACT_SAMPLES, PIANO, STACK, T, WORDS};
+use gingerfile::{Console, Refusal, CONTACT_SAMPLES, LONGEST_FILE, PIANO, STACK, T, WORDS};
 use std::error::Error;
 use std::fs::read_to_string;
 
@@ -40,6 +40,7 @@ fn a_refusal_has_the_words_of_the_program() {
         Refusal::FACTOR,
         Refusal::TAPS,
         Refusal::OUTPUT,
+        Refusal::BYTES,
     ];
     assert!(words.len() >= 17, "a row for each number to 16, the first for any other");
     for (number, refusal) in (1..).zip(refusals) {
@@ -65,8 +66,9 @@ fn the_header_has_the_same_numbers() {
         let rest = header.split(&format!("{name} = ")).nth(1).unwrap_or_else(|| panic!("the header has no {name}"));
         rest.split(|c: char| !c.is_ascii_digit()).next().unwrap().parse().unwrap()
     };
-    let names = ["WORDS", "T", "PIANO", "CONTACT_SAMPLES", "STACK"].map(|name| number(&format!("GINGERFILE_{name}")));
-    assert_eq!(names, [WORDS, T, PIANO, CONTACT_SAMPLES, STACK]);
+    let names = ["WORDS", "T", "PIANO", "CONTACT_SAMPLES", "STACK", "LONGEST_FILE"];
+    let numbers = names.map(|name| number(&format!("GINGERFILE_{name}")));
+    assert_eq!(numbers, [WORDS, T, PIANO, CONTACT_SAMPLES, STACK, LONGEST_FILE]);
 }
 
 /// `piano` is the instrument that the program `rehearse` has inside, as a file.

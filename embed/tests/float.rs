@@ -3,7 +3,7 @@
 mod common;
 
 use common::{bits, instrument, Strings, KEY};
-use gingerfile::{decimate, Console, Event, Refusal};
+use gingerfile::{adjust, decimate, Console, Event, Refusal, LONGEST_FILE};
 use std::arch::asm;
 
 const STANDARD: u32 = 0x1f80;
@@ -40,7 +40,7 @@ fn under<A>(word: u32, call: impl FnOnce() -> A) -> (A, u32) {
 const SHORT: Strings = Strings { keys: 2, strings: 2, n: 4, stages: 1, gain: 0.25 };
 const SAMPLES: usize = 24_000;
 
-/// All that the calls give: samples, forces, counts, words and cells.
+/// All that the calls give: samples, forces, counts, words and cells, and a file.
 #[derive(PartialEq)]
 struct Given {
     samples: Vec<u64>,
@@ -49,6 +49,7 @@ struct Given {
     cells: Vec<u64>,
     energies: Vec<u64>,
     decimated: Vec<u64>,
+    adjusted: Vec<u8>,
 }
 
 fn opened() -> Result<Console, Refusal> {
@@ -69,6 +70,9 @@ fn all_calls() -> Result<Given, Refusal> {
     let energies: Vec<f64> = console.energies()?.iter().map(|(_, energy)| *energy).collect();
     let kept = Console::restore(console.file(), console.words(), console.work())?;
     console.set_words(kept.words())?;
+    // a subnormal weight stands in the file, and one below 0 is no zero
+    let adjusted = adjust(console.file(), &[(KEY, 1e-320)])?;
+    assert_eq!(adjust(console.file(), &[(KEY, -1e-320)]), Err(Refusal::RECORD));
     let mut taps = [1e-3; 127];
     taps[0] = 1e-310;
     Ok(Given {
@@ -78,6 +82,7 @@ fn all_calls() -> Result<Given, Refusal> {
         cells: bits(console.work()),
         energies: bits(&energies),
         decimated: bits(&decimate(&out, &taps, 2)?),
+        adjusted,
     })
 }
 
@@ -118,6 +123,16 @@ extern "C" {
         file: *const u8, file_length: usize, words: *mut u64, words_length: usize, work: *mut f64, work_length: usize,
         scratch: *mut f64, scratch_length: usize, out: *mut f64, out_length: usize, trace: *mut f64, trace_length: usize,
     ) -> Report;
+    fn gingerfile_adjust(
+        file: *const u8, file_length: usize, keys: *const u8, keys_length: usize, weights: *const f64, weights_length: usize,
+        out: *mut u8, out_length: usize,
+    ) -> Report;
+}
+
+/// The refusal of the library's own adjust, for a subnormal weight below 0.
+fn bare_adjust() -> u64 {
+    let (file, mut out) = (instrument(&SHORT), [0; LONGEST_FILE]);
+    unsafe { gingerfile_adjust(file.as_ptr(), file.len(), &KEY, 1, &-1e-320, 1, out.as_mut_ptr(), out.len()).refusal }
 }
 
 /// The samples of the library's own play.
@@ -153,4 +168,5 @@ fn the_bare_library_would_give_something_else() {
     for word in [FLUSH, DENORMALS_ARE_ZEROS, DOWN, UP, TO_ZERO] {
         assert!(under(word, bare_play).0 != given, "{word:#06x} makes no difference to the bare library");
     }
+    assert_eq!((bare_adjust(), under(DENORMALS_ARE_ZEROS, bare_adjust).0), (7, 0));
 }

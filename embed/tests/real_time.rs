@@ -3,7 +3,7 @@
 mod common;
 
 use common::PIANO;
-use gingerfile::{decimate_into, Console, Event, Refusal};
+use gingerfile::{adjust_into, decimate_into, Console, Event, Refusal, LONGEST_FILE};
 use std::alloc::{GlobalAlloc, Layout, System};
 use std::cell::Cell;
 
@@ -43,6 +43,7 @@ fn calls_of_a_callback_allocate_nothing() {
     let (mut out, mut trace) = ([0.0; 256], [0.0; 256]);
     let words = console.words().to_vec();
     let work = console.work().to_vec();
+    let mut file = [0; LONGEST_FILE];
     let mut callback = || -> Result<usize, Refusal> {
         console.insert(10, Event::NoteOn { key: 60, velocity: 3.0 })?;
         console.insert(300, Event::Pedal(true))?;
@@ -56,6 +57,8 @@ fn calls_of_a_callback_allocate_nothing() {
         assert_eq!(console.remove(9), Err(Refusal::NO_EVENT));
         assert_eq!((console.events().count(), console.cues().count()), (1, 1));
         decimate_into(&out, &[0.5; 127], 2, &mut trace[..128])?;
+        assert_eq!(adjust_into(console.file(), &[60, 64], &[0.5, 0.25], &mut file)?, PIANO.len());
+        assert_eq!(adjust_into(console.file(), &[61], &[0.5], &mut file), Err(Refusal::RECORD));
         console.set_words(&words)?;
         console.work_mut().copy_from_slice(&work);
         Ok(played.forces)

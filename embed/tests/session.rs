@@ -2,7 +2,7 @@
 
 mod common;
 
-use common::{bits, instrument, key_contacts, play, Played, Strings, KEY, LEAST, PIANO};
+use common::{bits, instrument, key_contacts, play, refused_files, Played, Strings, KEY, LEAST, PIANO};
 use gingerfile::{decimate, decimate_into, decimated_length, Console, Edited, Event, Refusal};
 use gingerfile::{CONTACT_SAMPLES, PIANO as NOW, T, WORDS};
 
@@ -48,19 +48,10 @@ fn refused<A: std::fmt::Debug>(
 #[test]
 fn files_are_refused_by_number() {
     let refusal = |file: &[u8]| Console::open(file).map(|_| ()).map_err(Refusal::number);
-    let changed = |at: usize, bytes: &[u8]| {
-        let mut file = PIANO.to_vec();
-        file[at..at + bytes.len()].copy_from_slice(bytes);
-        file
-    };
     assert_eq!(refusal(PIANO), Ok(()));
-    assert_eq!(refusal(&[]), Err(1));
-    assert_eq!(refusal(&PIANO[..PIANO.len() - 1]), Err(2));
-    // the table of eight keys ends at 76, the common section at 152, where key 36 begins
-    assert_eq!(refusal(&changed(152 + 2, &[4])), Err(3));
-    assert_eq!(refusal(&changed(76, &f64::NAN.to_le_bytes())), Err(4));
-    assert_eq!(refusal(&instrument(&Strings { keys: 11, strings: 3, ..LEAST })), Err(5));
-    assert_eq!(refusal(&changed(152, &[43])), Err(6));
+    for (file, number) in refused_files() {
+        assert_eq!(refusal(&file), Err(number));
+    }
 }
 
 #[test]

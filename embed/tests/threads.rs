@@ -3,7 +3,7 @@
 mod common;
 
 use common::{instrument, play, Played, KEY, LARGEST, LEAST, PIANO};
-use gingerfile::{decimate, Console, Event, Refusal};
+use gingerfile::{adjust, decimate, Console, Event, Refusal};
 use std::thread::Builder;
 
 /// What a host is told to give a thread that makes the calls.
@@ -24,6 +24,7 @@ fn rehearse(file: &[u8], key: u8) -> Result<[Played; 2], Refusal> {
     console.set_words(&words)?;
     let second = play(&mut console.clone(), 300)?;
     decimate(&[1.0; 300], &[1.0; 127], 2)?;
+    assert_ne!(adjust(file, &[(key, 0.5)])?, file);
     Ok([first, second])
 }
 

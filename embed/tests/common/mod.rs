@@ -52,6 +52,24 @@ pub fn instrument(like: &Strings) -> Vec<u8> {
     file
 }
 
+/// Files that are no instrument's, each with the number that refuses it: one for each number.
+pub fn refused_files() -> [(Vec<u8>, u64); 6] {
+    let changed = |at: usize, bytes: &[u8]| {
+        let mut file = PIANO.to_vec();
+        file[at..at + bytes.len()].copy_from_slice(bytes);
+        file
+    };
+    // the table of eight keys ends at 76, the common section at 152, where key 36 begins
+    [
+        (vec![], 1),
+        (PIANO[..PIANO.len() - 1].to_vec(), 2),
+        (changed(152 + 2, &[4]), 3),
+        (changed(76, &f64::NAN.to_le_bytes()), 4),
+        (instrument(&Strings { keys: 11, strings: 3, ..LEAST }), 5),
+        (changed(152, &[43]), 6),
+    ]
+}
+
 /// The bits of samples and forces, so that signs of zeros and NaNs count.
 pub fn bits(floats: &[f64]) -> Vec<u64> {
     floats.iter().map(|x| x.to_bits()).collect()
