@@ -4,7 +4,6 @@ use instrument::Instrument;
 use instrument::is_valid;
 use instrument::part_cells;
 use instrument::work_cells;
-use instrument_writer::LONGEST;
 use libc::STDOUT_FILENO;
 
 fn say(words: &[u8]) {
@@ -42,14 +41,16 @@ fn say_instrument(i: Instrument) {
 
 // ---- the file again
 
-// What every byte holds that the writer is lent.
-const LENT: u8 = 0xa5;
+// One byte more than any file has, and what each holds before the writer is lent the first of them.
+const ROOM: usize = 2201;
 
-// The first byte that is not the file's or, past the file, not as it was lent; the number of bytes where each is.
+const BEFORE: u8 = 0xa5;
+
+// The first byte that is not the file's or, past the file, not as before; the number of bytes where each is.
 fn first_wrong(bytes: &[u8], file: &[u8]) -> usize {
     let mut k = 0usize;
     while k < bytes.len() {
-        let wanted = if k < file.len() { file[k] } else { LENT };
+        let wanted = if k < file.len() { file[k] } else { BEFORE };
         if bytes[k] != wanted {
             return k;
         }
@@ -58,9 +59,12 @@ fn first_wrong(bytes: &[u8], file: &[u8]) -> usize {
     k
 }
 
-// Writes a record into lent bytes; says what the writer answers, then `right` where the bytes are the file's.
-fn say_writing(i: Instrument, bytes: &mut [u8], file: &[u8], right: &[u8]) {
-    let answer = instrument_writer::write(i, bytes);
+// Writes a record into the first n bytes; says what the writer answers, then `right` where all bytes are as they should be.
+fn say_writing(i: Instrument, bytes: &mut [u8], n: usize, file: &[u8], right: &[u8]) {
+    if bytes.len() < n {
+        return;
+    }
+    let answer = instrument_writer::write(i, &mut bytes[..n]);
     if answer.refusal == 0 {
         say_number(b"written ", answer.length);
     } else {
@@ -75,6 +79,13 @@ fn say_writing(i: Instrument, bytes: &mut [u8], file: &[u8], right: &[u8]) {
     }
 }
 
+fn say_refused(path: &[u8], words: &[u8], i: Instrument, n: usize) {
+    let mut bytes = [BEFORE; ROOM];
+    say(path);
+    say(words);
+    say_writing(i, &mut bytes, n, b"", b", untouched\n");
+}
+
 // No place of a record may hold this weight, used or unused.
 fn spoiled(instrument: Instrument) -> Instrument {
     let mut i = instrument;
@@ -82,28 +93,17 @@ fn spoiled(instrument: Instrument) -> Instrument {
     i
 }
 
-fn say_refused(path: &[u8], words: &[u8], i: Instrument, bytes: &mut [u8]) {
-    say(path);
-    say(words);
-    say_writing(i, bytes, b"", b", untouched\n");
-}
-
-// One byte more than any file has is lent, and one fewer than this one has.
 fn say_again(path: &[u8], i: Instrument, file: &[u8]) {
+    let mut bytes = [BEFORE; ROOM];
+    say_writing(i, &mut bytes, ROOM, file, b", same\n");
     let n = file.len();
     if n < 1 {
         return;
     }
-    if LONGEST < n {
-        return;
-    }
-    let mut bytes = [LENT; 2201];
-    say_writing(i, &mut bytes, file, b", same\n");
-    let mut others = [LENT; 2201];
     let wrong = spoiled(i);
-    say_refused(path, b", one byte short: ", i, &mut others[..n - 1]);
-    say_refused(path, b", a place spoiled: ", wrong, &mut others);
-    say_refused(path, b", both: ", wrong, &mut others[..n - 1]);
+    say_refused(path, b", one byte short: ", i, n - 1);
+    say_refused(path, b", a place spoiled: ", wrong, ROOM);
+    say_refused(path, b", both: ", wrong, n - 1);
 }
 
 // An accepted file has at most 2,200 bytes, so that a file that fills the buffer is none.
