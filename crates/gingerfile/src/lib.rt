@@ -360,8 +360,8 @@ pub extern "C" fn gingerfile_energies(file: &[u8], words: &[u64], work: &[f64]) 
     flat_of(answer.refusal, found.count, pairs)
 }
 
-// The file with other weights, pair by pair: the key of that number gets the weight. 7 where there are not as many weights as keys, the file has not every key, or a weight is out of its
-// range; 20 where the bytes lent are fewer than the file's.
+// The file with other weights, pair by pair: the key of that number gets the weight, of a key named twice the later one. 7 where there are not as many weights as keys, the file has not every
+// key, or a weight that stands is out of its range; 20 where the bytes lent are fewer than the file's.
 #[no_mangle]
 pub extern "C" fn gingerfile_adjust(
     file: &[u8],
