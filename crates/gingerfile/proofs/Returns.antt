@@ -20,7 +20,7 @@ use Rattle.instrument.specs.Work.{countedPart}
 use Rattle.instrument_encoding.specs.Accepted.{accepted-valid}
 use Rattle.instrument_writer.specs.declared.WriteAnswer.{WriteAnswer}
 use Rattle.instrument_writer.specs.Write.{WriteMeets}
-use Rattle.weights.specs.declared.Weighed.{Weighed}
+use Rattle.weights.specs.declared.Adjusted.{Adjusted}
 use Rattle.weights.specs.Weights.{weightedBy, wholePairs}
 use Rattle.session_record.specs.declared.Session.{Session}
 use Rattle.session.specs.declared.Outcome.{Outcome}
@@ -181,14 +181,14 @@ module _ (f w : List ℕ) {g : ReadAnswer} {n : ℕ} (eg : g ≡ readOf f) (en :
 
 -- ---- an adjusted file
 
-module _ (f keys : List ℕ) (weights : List Float) {g : ReadAnswer} {x : Weighed} {n : ℕ} (eg : g ≡ readOf f)
+module _ (f keys : List ℕ) (weights : List Float) {g : ReadAnswer} {x : Adjusted} {n : ℕ} (eg : g ≡ readOf f)
     (ex : x ≡ record { «is_whole» = wholePairs (g .instrument) keys weights; instrument = weightedBy (g .instrument) keys weights })
     (en : n ≡ handedRefusal (g .refusal) (x .«is_whole»)) where
   adjust-number : n ≡ handedRefusal (readOf f .refusal) (wholePairs (readOf f .instrument) keys weights)
-  adjust-number = rw (← eg) (en ∙ ap (λ (y : Weighed). handedRefusal (g .refusal) (y .«is_whole»)) ex)
+  adjust-number = rw (← eg) (en ∙ ap (λ (y : Adjusted). handedRefusal (g .refusal) (y .«is_whole»)) ex)
 
   adjusted-is : x .instrument ≡ weightedBy (readOf f .instrument) keys weights
-  adjusted-is = rw (← eg) (ap (λ (y : Weighed). y .instrument) ex)
+  adjusted-is = rw (← eg) (ap (λ (y : Adjusted). y .instrument) ex)
 
   module _ {out : List ℕ} {r : Report} where
     pub adjust-refused : (n ≡ 0 → ⊥) → r ≡ refusedBy n → AdjustMeets f keys weights out r out

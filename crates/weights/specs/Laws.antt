@@ -1,5 +1,5 @@
 -- What setting a weight leaves and what it decides. No key comes or goes (`has-same`); of two weights for one key the later stands (`later-stands`); and a record that an accepted file gives
--- stays one exactly where the weight is in its range (`weighted-valid`), so that a writer's 7 then says that it is not. Assumes nothing.
+-- stays one exactly where the weight is in its range (`weighted-valid`, for all pairs `whole-valid`), so that a writer's 7 then says that it is not. Assumes nothing.
 use mathlib.Core.Path.{_≡_, refl, sym, ap, _∙_}
 use mathlib.Core.Bool.{Bool, true, false, _&&_, and-true}
 use mathlib.Core.List.{List, [], _∷_}
@@ -7,14 +7,14 @@ use mathlib.Core.Logic.{⊎-elim}
 use Prim.Native.Nat.{ℕ, zero, suc, _+_, _-_, _≤_, _<_}
 use native.Mathlib.Nat.{le-refl, eq-or-lt-of-le, le-of-suc-le-suc}
 use native.Mathlib.Omega.{arith}
-use lib.Dec.{leb, ltb}
+use lib.Dec.{leb, ltb, eqb}
 use lib.ListN.{length, getD, set, List·getD-eq-default}
 use lib.Seq.{getD-set-same, getD-set-other, set-set}
-use lib.Ieee.{Float}
+use lib.Ieee.{Float, nan}
 use borrow.Author.Tests.{leb-true, ltb-true}
 use Rattle.counting.specs.Every.{every, everyAfter, and-left, and-right, holds}
 use Rattle.counting.specs.Below.{allBelow}
-use Rattle.counting.specs.Laws.{lt-or-ge, all-build, all-cong, sum-cong}
+use Rattle.counting.specs.Laws.{lt-or-ge, all-at, all-build, all-cong, sum-cong}
 use Rattle.instrument_fields.specs.declared.KeyDesign.{KeyDesign}
 use Rattle.instrument_fields.specs.Ranges.{keyInRange}
 use Rattle.instrument_fields.specs.Unused.{isNoKey}
@@ -22,7 +22,7 @@ use Rattle.instrument.specs.declared.Instrument.{Instrument}
 use Rattle.instrument.specs.Valid.{pastKey, keyAt, keysInRange, stringSum, newKey, keysApart, keysUnused, counted, keysValid, stringsValid, valid}
 use Rattle.instrument.specs.ValidLaws.{key-in-range, some-strings, keys-ranges}
 use Rattle.instrument.specs.KeyIndex.{keyIndex}
-use Rattle.weights.specs.Weights.{indexOf, hasKey, weightInRange, keyWeighted, weightedAt, weighted}
+use Rattle.weights.specs.Weights.{indexOf, hasKey, weightInRange, keyWeighted, weightedAt, weighted, weightedBy, wholePairs}
 
 -- ---- tests of which all but one hold: that one decides
 
@@ -199,3 +199,22 @@ later-stands i key w v = by-test (hasKey i key) refl
         ∙ set-again i k w v
         ∙ sym (weighted-there i key e v)
     by-test false e = ap (λ (r : Instrument). weighted r key v) (weighted-none i key e w)
+
+-- weights in their range, for keys that are there, keep a record one that an accepted file gives
+module _ (keys : List ℕ) (weights : List Float) where
+  pub whole-valid : (i : Instrument) → valid i ≡ true → wholePairs i keys weights ≡ true → allBelow (length weights) (λ j. weightInRange (getD weights j nan)) ≡ true
+      → valid (weightedBy i keys weights) ≡ true
+  unfolding wholePairs weightedBy
+  whole-valid i v whole ranges =
+      go keys weights i v
+      (all-at (λ j. hasKey i (getD keys j 0)) (length keys) (and-right (eqb (length keys) (length weights)) _ whole))
+      (all-at (λ j. weightInRange (getD weights j nan)) (length weights) ranges)
+    where
+      go : (ks : List ℕ) (ws : List Float) (i : Instrument) → valid i ≡ true → ((j : ℕ) → j < length ks → hasKey i (getD ks j 0) ≡ true)
+          → ((j : ℕ) → j < length ws → weightInRange (getD ws j nan) ≡ true) → valid (weightedBy i ks ws) ≡ true
+      go [] ws i v there range = v
+      go (k ∷ ks) [] i v there range = v
+      go (k ∷ ks) (w ∷ ws) i v there range =
+          go ks ws (weighted i k w) (weighted-valid i k v (there 0 (omega arith)) w ∙ range 0 (omega arith))
+          (λ j l. has-same i k w (getD ks j 0) ∙ there (suc j) (omega arith))
+          (λ j l. range (suc j) (omega arith))

@@ -7,7 +7,7 @@ ghost use mathlib.Core.Path.{_≡_};
 ghost use Rattle.weights.specs.Weights.{hasKey, keyWeighted, weighted, weightedBy, wholePairs};
 
 // Whether there are as many weights as keys and the instrument has every key; and the instrument with them.
-pub struct Weighed {
+pub struct Adjusted {
     pub is_whole: bool,
     pub instrument: Instrument,
 }
@@ -46,7 +46,7 @@ pub fn set_weight(i: Instrument, key: u8, weight: f64) -> Instrument
 }
 
 // Pair by pair, in order, as far as both go: of a key named twice the later weight stands.
-pub fn set_weights(i: Instrument, keys: &[u8], weights: &[f64]) -> Weighed
+pub fn set_weights(i: Instrument, keys: &[u8], weights: &[f64]) -> Adjusted
     ensures { λ r. ⌜ r ≡ record { «is_whole» = wholePairs i (now (keys .entry)) (now (weights .entry)); instrument = weightedBy i (now (keys .entry)) (now (weights .entry)) } ⌝ }
 {
     let pairs = if keys.len() < weights.len() {
@@ -61,7 +61,7 @@ pub fn set_weights(i: Instrument, keys: &[u8], weights: &[f64]) -> Weighed
         all = all & has_key(i, key);
         instrument = set_weight(instrument, key, weights[j]);
     }
-    Weighed {
+    Adjusted {
         is_whole: (keys.len() == weights.len()) & all,
         instrument,
     }
