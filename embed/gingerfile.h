@@ -12,8 +12,9 @@
             a thread, or around the calls: _mm_setcsr(0x1f80) of <xmmintrin.h>; or one by one fesetround(FE_TONEAREST),
             _MM_SET_FLUSH_ZERO_MODE(_MM_FLUSH_ZERO_OFF) and _MM_SET_DENORMALS_ZERO_MODE(_MM_DENORMALS_ZERO_OFF).
    Stack    GINGERFILE_STACK bytes below the frame that a call is made in: the most that was measured, rounded up to whole pages.
-            Measured were read 17,992, open 21,448, energies 38,280, remove 39,944, cue 41,736, play 41,992, go 42,200,
-            insert 45,320, decimate 88. embed/c/stack.c measures them, and makes each call with exactly the promised stack.
+            Measured were read 17,992, open 22,856, adjust 25,992, energies 40,712, remove 43,528, play 43,960, go 44,280,
+            cue 46,536, insert 49,480, decimate 88. embed/c/stack.c measures them, and makes each call with exactly the promised
+            stack.
    Threads  any number of them may make calls at the same time, each on its own words, work, scratch, output and trace; the
             instrument's file is only read and may be shared. A call allocates nothing, takes no lock and makes no system call.
 
