@@ -23,7 +23,7 @@
     1 to 6  the file: table, chain, lengths, fields, over 32 strings, a key twice
     7       the words are no session's on this instrument, or an event's numbers no event's; words kept by an earlier version,
             541 with one count for all keys, are none. Of gingerfile_adjust: there are not as many weights as keys, the instrument has
-            no such key, or a weight is NaN or outside 0 to 100
+            no such key, or a weight that is to stand is NaN or outside 0 to 100
     8       work memory has fewer cells than gingerfile_read says
     9       scratch has fewer cells than gingerfile_read says
    10       the trace is shorter than the output

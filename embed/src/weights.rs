@@ -12,8 +12,8 @@ pub const LONGEST_FILE: usize = 2_200;
 /// # Errors
 ///
 /// 1 to 6, [`TABLE`](Refusal::TABLE) to [`KEY_TWICE`](Refusal::KEY_TWICE), for a file that is no instrument's;
-/// [`RECORD`](Refusal::RECORD) where there are not as many weights as keys, the instrument has no such key, or a weight is NaN or
-/// outside 0 to 100; then [`BYTES`](Refusal::BYTES) where `out` is shorter than the new file. No byte of `out` has changed.
+/// [`RECORD`](Refusal::RECORD) where there are not as many weights as keys, the instrument has no such key, or a weight that is to stand is
+/// NaN or outside 0 to 100; then [`BYTES`](Refusal::BYTES) where `out` is shorter than the new file. No byte of `out` has changed.
 pub fn adjust_into(file: &[u8], keys: &[u8], weights: &[f64], out: &mut [u8]) -> Result<usize, Refusal> {
     let report = library!(gingerfile_adjust, [file, keys, weights], [out]);
     Refusal::of(report.refusal)?;
