@@ -17,7 +17,7 @@ fn refusal(call: Result<Console, Refusal>) -> Refusal {
 
 #[test]
 fn a_refusal_has_the_words_of_the_program() {
-    let source = file("../crates/console/src/words.rt");
+    let source = file("../crates/text/src/refusal.rt");
     let rows = source.split("pub fn put_refusal").nth(1).unwrap().split("n,\n").next().unwrap();
     let words: Vec<&str> = rows.lines().filter_map(|row| row.trim().strip_prefix(": ")?.split("\\n").next()).collect();
     let refusals = [

@@ -12,7 +12,6 @@ mod replies;
 mod words;
 
 use instrument::Instrument;
-pub use replies::put_refusal;
 pub use replies::put_reply;
 use session::Answer;
 use session::Outcome;

@@ -12,12 +12,8 @@ use session_record::Session;
 use text::put;
 use text::put_bits;
 use text::put_counted;
+use text::put_refusal;
 use text::script::Fault;
-
-pub fn put_refusal(line: &mut [u8], number: u64) -> usize {
-    let at = put_counted(line, 0, b"refused ", number);
-    words::put_refusal(line, at, number)
-}
 
 // The script's line number behind `bad line`.
 fn put_fault(line: &mut [u8], number: u64, fault: Fault) -> usize {

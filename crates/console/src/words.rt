@@ -1,34 +1,6 @@
-// What a refusal or a bad line means, in plain words: a row each.
+// What a bad line lacks, in plain words: a row each.
 use text::put_row;
 use text::script::Fault;
-
-// Row n is refusal n's; the first is for any other number.
-pub fn put_refusal(line: &mut [u8], at: usize, number: u64) -> usize {
-    let n = if number <= 16 { number } else { 0 };
-    put_row(
-        line,
-        at,
-        b"\
-            : refused\n\
-            : the file is too short, or its number of sections is out of range\n\
-            : the sections do not chain\n\
-            : a section has a wrong length\n\
-            : a field is out of range\n\
-            : more than 32 strings\n\
-            : a key comes twice\n\
-            : the instrument or the session is wrong\n\
-            : work memory is too short\n\
-            : scratch is too short\n\
-            : the trace is shorter than the output\n\
-            : beyond the last position\n\
-            : the score is full\n\
-            : the velocity is not from -100 to 100\n\
-            : no event has this index\n\
-            : four other cues are kept\n\
-            : more than 1000000 samples to replay\n",
-        n,
-    )
-}
 
 fn row_of(fault: Fault) -> u64 {
     match fault {

@@ -1,7 +1,6 @@
 // `rehearse [INSTRUMENT SCRIPT OUT.wav [FORCES]]`: plays a script's calls on an instrument, answers each by a line, and writes what was played. All that matters is in the
 // library; this holds the memory that it lends, and the files.
 mod answers;
-mod loading;
 mod places;
 mod progress;
 mod rehearsal;
@@ -115,7 +114,12 @@ fn rehearse_embedded() -> u8 {
     let mut file = [0u8; 2048];
     let n = embedded::put_instrument(&mut file);
     let nothing = file_status::status_of(-1);
-    let loaded = loading::accept(part(&file, 0, n), b"the instrument", nothing);
+    let loaded = instrument_input::accept(
+        b"rehearse",
+        b"the instrument",
+        part(&file, 0, n),
+        nothing,
+    );
     if loaded.status != DONE {
         return loaded.status;
     }
@@ -158,7 +162,7 @@ fn rehearse_on(
     forces: &[u8],
     has_forces: bool,
 ) -> u8 {
-    let loaded = loading::load(instrument);
+    let loaded = instrument_input::load(b"rehearse", instrument);
     if loaded.status != DONE {
         return loaded.status;
     }

@@ -13,6 +13,7 @@ use std::num::wrapping_add_u64;
 use text::lines;
 use text::lines::Found;
 use text::lines::Reader;
+use text::put_refusal;
 
 struct Tally {
     lists: u64,
@@ -45,7 +46,7 @@ fn open(file: &[u8], work: &mut [f64], trace: &[f64], text: &mut [u8]) -> Replay
     let length = if answer.refusal == 0 {
         console::put_reply(text, 0, reply, instrument, console, work)
     } else {
-        console::put_refusal(text, answer.refusal as u64)
+        put_refusal(text, answer.refusal as u64)
     };
     Replay {
         instrument,

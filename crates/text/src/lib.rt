@@ -1,12 +1,16 @@
 // Text in bytes, for programs: the lines of a file, their words and numbers, a script's lines as commands, and text put into lent bytes. Every function takes any bytes.
 pub mod lines;
 mod number;
+mod refusal;
 pub mod script;
 mod word;
 
 pub use number::Number;
+pub use number::Real;
 pub use number::hexadecimal_of;
 pub use number::number_of;
+pub use number::real_of;
+pub use refusal::put_refusal;
 pub use word::place_of;
 pub use word::word_at;
 

@@ -12,7 +12,8 @@ pub enum Number {
     None,
 }
 
-pub enum Velocity {
+// Any float, or no number.
+pub enum Real {
     Value(f64),
     None,
 }
@@ -92,14 +93,14 @@ pub fn hexadecimal_of(word: &[u8]) -> Number {
 }
 
 // A float's bits: sixteen digits.
-fn bits(word: &[u8]) -> Velocity {
+fn bits(word: &[u8]) -> Real {
     if word.len() != 16 {
-        return Velocity::None;
+        return Real::None;
     }
     let n = hexadecimal_of(word);
     match n {
-        Number::Value(b) => Velocity::Value(float_of(b)),
-        _ => Velocity::None,
+        Number::Value(b) => Real::Value(float_of(b)),
+        _ => Real::None,
     }
 }
 
@@ -160,7 +161,7 @@ fn with_byte(x: Decimal, b: u8) -> Decimal
 
 // Digits with at most one point among them. Fifteen digits and a power of ten up to the
 // fifteenth are floats exactly, so the one division rounds once.
-fn decimal_of(word: &[u8]) -> Velocity {
+fn decimal_of(word: &[u8]) -> Real {
     let mut x = Decimal {
         n: 0,
         count: 0,
@@ -173,20 +174,20 @@ fn decimal_of(word: &[u8]) -> Velocity {
         x = next;
     }
     if !x.good | (x.count == 0) {
-        return Velocity::None;
+        return Real::None;
     }
-    Velocity::Value(std::num::nearest_u64_to_f64(x.n) / ten_to(x.behind))
+    Real::Value(std::num::nearest_u64_to_f64(x.n) / ten_to(x.behind))
 }
 
-fn negated(v: Velocity) -> Velocity {
+fn negated(v: Real) -> Real {
     match v {
-        Velocity::Value(x) => Velocity::Value(-x),
-        Velocity::None => Velocity::None,
+        Real::Value(x) => Real::Value(-x),
+        Real::None => Real::None,
     }
 }
 
 // A decimal with an optional sign and fraction, of at most fifteen digits, or 0x and the bits.
-pub fn velocity_of(word: &[u8]) -> Velocity {
+pub fn real_of(word: &[u8]) -> Real {
     let first = byte_at(word, 0);
     if (first == b'0') & (byte_at(word, 1) == b'x') {
         return bits(part(word, 2, word.len()));

@@ -2,9 +2,9 @@
 use crate::lines::Found;
 use crate::lines::Line;
 use crate::number::Number;
-use crate::number::Velocity;
+use crate::number::Real;
 use crate::number::number_of;
-use crate::number::velocity_of;
+use crate::number::real_of;
 use crate::word::place_of;
 use crate::word::word_at;
 use crate::word::word_count;
@@ -108,16 +108,16 @@ fn lend(line: &[u8]) -> Command {
 
 // A strike's velocity is word 4.
 fn note_on(line: &[u8], position: u64, key: u8) -> Command {
-    let v = velocity_of(word_at(line, 4));
+    let v = real_of(word_at(line, 4));
     match v {
-        Velocity::Value(velocity) => Command {
+        Real::Value(velocity) => Command {
             kind: Kind::NoteOn,
             number: position,
             key,
             velocity,
             down: false,
         },
-        Velocity::None => bad(Fault::NoVelocity),
+        Real::None => bad(Fault::NoVelocity),
     }
 }
 

@@ -1,17 +1,16 @@
-// The instrument's file. What cannot be opened or read is named on standard error; a refused file answers its number.
+// An instrument from a file that a person names, for programs. What cannot be opened or read is named on standard error; a refused file answers its number.
 use file_status::FileStatus;
 use instrument::Instrument;
-use libc::STDOUT_FILENO;
 use little_endian::part;
 use little_endian::u32_at;
 use program::arguments::DONE;
 use program::arguments::REFUSED;
 use program::arguments::WRONG;
 use program::input;
+use program::input::Input;
 use program::kind;
-use program::message::complain;
 use program::message::complain_of;
-use program::output;
+use program::streams;
 use std::num::wrapping_add_u64;
 
 // An instrument where `status` is DONE.
@@ -31,20 +30,15 @@ fn without(status: u8, file: FileStatus) -> Loaded {
     }
 }
 
-// The refusal's line, which goes to standard error where standard output takes nothing.
-fn refuse(path: &[u8], refusal: u32) {
+// The refusal's line of answer.
+pub fn answer_refusal(program: &[u8], path: &[u8], refusal: u32) {
     let mut line = [0u8; 128];
-    let n = console::put_refusal(&mut line, refusal as u64);
-    let end = text::put(&mut line, n, b"\n");
-    let written = output::write(STDOUT_FILENO, part(&line, 0, end));
-    if written.error != 0 {
-        complain_of(b"rehearse", b"standard output", written.error);
-        complain(b"rehearse", path, part(&line, 0, n));
-    }
+    let n = text::put_refusal(&mut line, refusal as u64);
+    streams::write_answer(program, path, &mut line, n);
 }
 
 // The file's instrument, or its refusal as the one line of answer.
-pub fn accept(bytes: &[u8], path: &[u8], file: FileStatus) -> Loaded {
+pub fn accept(program: &[u8], path: &[u8], bytes: &[u8], file: FileStatus) -> Loaded {
     let answer = instrument_file::read(bytes);
     let instrument = answer.instrument;
     if answer.refusal == 0 {
@@ -54,7 +48,7 @@ pub fn accept(bytes: &[u8], path: &[u8], file: FileStatus) -> Loaded {
             file,
         };
     }
-    refuse(path, answer.refusal);
+    answer_refusal(program, path, answer.refusal);
     without(REFUSED, file)
 }
 
@@ -123,26 +117,30 @@ fn size_of(file: FileStatus) -> i64 {
 
 // ---- reading
 
-fn read(fd: i32, path: &[u8], file: FileStatus) -> Loaded {
+fn read(program: &[u8], path: &[u8], fd: i32, file: FileStatus) -> Loaded {
     let mut bytes = [0u8; 8192];
     let read = input::read_all(fd, &mut bytes);
     if read.error != 0 {
-        complain_of(b"rehearse", path, read.error);
+        complain_of(program, path, read.error);
         return without(WRONG, file);
     }
     if 8192 <= read.count {
-        refuse(path, refusal_of_long(&bytes, size_of(file)));
+        answer_refusal(program, path, refusal_of_long(&bytes, size_of(file)));
         return without(REFUSED, file);
     }
-    accept(part(&bytes, 0, read.count), path, file)
+    accept(program, path, part(&bytes, 0, read.count), file)
 }
 
-pub fn load(path: &[u8]) -> Loaded {
-    let source = input::open(b"rehearse", path);
+// Of a file that is open, or that could not be opened, which has been said; it is closed.
+pub fn load_from(program: &[u8], path: &[u8], source: Input) -> Loaded {
     if source.fd < 0 {
         return without(WRONG, source.file);
     }
-    let loaded = read(source.fd, path, source.file);
+    let loaded = read(program, path, source.fd, source.file);
     libc::close(source.fd);
     loaded
+}
+
+pub fn load(program: &[u8], path: &[u8]) -> Loaded {
+    load_from(program, path, input::open(program, path))
 }

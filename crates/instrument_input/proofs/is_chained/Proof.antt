@@ -1,8 +1,8 @@
 -- Ending: the pairs are counted. Assumes nothing.
 use Prim.Native.Nat.{_≤_, _-_}
 use borrow.Author.Needs.{needs}
-use Rattle.rehearse.proofs.loading.is_chained.Statement.{statement}
-use Rattle.rehearse.proofs.loading.is_chained.Tie as tie
+use Rattle.instrument_input.proofs.is_chained.Statement.{statement}
+use Rattle.instrument_input.proofs.is_chained.Tie as tie
 
 abbrev Inv-loop : tie.InvT-loop
 Inv-loop table size sections chain₀ i₀ chain i = i ≤ sections
