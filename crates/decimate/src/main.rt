@@ -15,6 +15,7 @@ use program::input;
 use program::input::Input;
 use program::message::complain;
 use program::message::complain_of;
+use program::message::complain_of_word;
 use program::output;
 use program::output::InUse;
 use program::output::Output;
@@ -180,13 +181,8 @@ fn run_into(given: Arguments, input: &[u8], taps: &[u8], factor: usize) -> u8 {
     run(input, taps, factor, &output[..n])
 }
 
-// A word that is no factor, by itself, or by what it stands for where there is none to show.
 fn refuse_factor(word: &[u8], words: &[u8]) -> u8 {
-    if word.len() == 0 {
-        complain(b"decimate", b"FACTOR", words);
-    } else {
-        complain(b"decimate", word, words);
-    }
+    complain_of_word(b"decimate", word, b"FACTOR", words);
     WRONG
 }
 

@@ -22,6 +22,8 @@ pub struct FileStatus {
     pub device: u64,
     pub inode: u64,
     pub mode: u32,
+    pub owner: u32,
+    pub group: u32,
     pub size: i64,
 }
 
@@ -42,6 +44,16 @@ pub fn status_at(path: &[u8]) -> FileStatus {
     at_ended(&ended)
 }
 
+// Whether the path names a symbolic link: only of one is there a text to read.
+pub fn is_link(path: &[u8]) -> bool {
+    if !is_path(path) {
+        return false;
+    }
+    let ended = ended(path);
+    let mut text = [0u8; 1];
+    0 <= libc::readlink(&ended, &mut text)
+}
+
 fn at_ended(path: &[u8; PATH_MAX]) -> FileStatus
     requires { ⌜ Ended (now path) ⌝ }
 {
@@ -60,6 +72,8 @@ fn read_back(answer: i32, filled: stat) -> FileStatus {
         device: filled.st_dev,
         inode: filled.st_ino,
         mode: filled.st_mode,
+        owner: filled.st_uid,
+        group: filled.st_gid,
         size: filled.st_size,
     }
 }
@@ -70,6 +84,8 @@ fn unknown() -> FileStatus {
         device: 0,
         inode: 0,
         mode: 0,
+        owner: 0,
+        group: 0,
         size: 0,
     }
 }

@@ -46,6 +46,7 @@ pub fn is_barred(file: FileStatus) -> bool {
     file.is_known & (row_of(kind_of(file)) != 4)
 }
 
+// What it is, of one that is no regular file.
 pub fn complain_of(program: &[u8], path: &[u8], file: FileStatus) {
     crate::message::complain(
         program,
@@ -55,7 +56,8 @@ pub fn complain_of(program: &[u8], path: &[u8], file: FileStatus) {
                 it is a directory\n\
                 it is a FIFO or a pipe, and a file is wanted\n\
                 it is a socket, and a file is wanted\n\
-                it is a block device, and a file is wanted\n",
+                it is a block device, and a file is wanted\n\
+                it is a device, and a file is wanted\n",
             row_of(kind_of(file)),
         ),
     );

@@ -5,5 +5,6 @@ pub mod input;
 pub mod kind;
 pub mod message;
 pub mod output;
+pub mod replacement;
 pub mod streams;
 pub mod wave;

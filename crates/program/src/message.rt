@@ -15,6 +15,15 @@ pub fn complain(program: &[u8], what: &[u8], words: &[u8]) {
     io::write_all(STDERR_FILENO, b"\n");
 }
 
+// Of a word of the command line, by itself, or by what it stands for where there is none to show: it is empty, or longer than any that is meant.
+pub fn complain_of_word(program: &[u8], word: &[u8], what: &[u8], words: &[u8]) {
+    if word.len() == 0 {
+        complain(program, what, words);
+    } else {
+        complain(program, word, words);
+    }
+}
+
 // With the system's words for the call that failed just now.
 pub fn fail(program: &[u8], what: &[u8]) {
     io::write_all(STDERR_FILENO, program);
