@@ -11,6 +11,7 @@ use lib.Seq.{sets, sets-eq, take-append-seam}
 use borrow.Author.Tests.{ltb-false}
 use Rattle.little_endian.specs.Stores.{stored-then}
 use Rattle.counting.specs.Below.{gather}
+use Rattle.counting.specs.Meets.{meets-refused, meets-accepted}
 use Rattle.instrument.specs.declared.Instrument.{Instrument}
 use Rattle.instrument.specs.Valid.{valid}
 use Rattle.instrument_file.specs.File.{readOf}
@@ -18,7 +19,7 @@ use Rattle.instrument_encoding.specs.Encode.{sectionBytes, encode}
 use Rattle.instrument_encoding.specs.Rewritten.{read-encode}
 use Rattle.instrument_encoding.specs.Files.{GivenTest}
 use Rattle.instrument_writer.specs.Pieces.{tableBytes, table-sections, countedLength, length-counted}
-use Rattle.instrument_writer.specs.Write.{writeRefusal, wrote, Writes}
+use Rattle.instrument_writer.specs.Write.{writeRefusal, notWritten, wrote, WriteMeets}
 use Rattle.instrument_writer.proofs.Loops.{table-length}
 
 module _ (i : Instrument) where
@@ -31,20 +32,9 @@ module _ (i : Instrument) where
       let size = 12 + 8 * n in
       stored-then l l₁ l₂ (tableBytes i) (gather (n + 1) (sectionBytes i)) 0 size size (table-length i) (sym (zero-add size)) e g ∙ ap (sets l 0) (table-sections i)
 
-  -- the number that the code finds is the promised one: where the record is wrong, its length does not matter
-  module _ (room : ℕ) where
-    by-test : (t : Bool) → valid i ≡ t → cond (not t) 7 (cond (ltb room (countedLength n (i .«string_count»))) 20 0) ≡ writeRefusal i room
-    unfolding writeRefusal
-    by-test true v = rw (v, length-counted i v)
-    by-test false v = rw v
-
-    pub number-is : (given : Bool) (len number : ℕ) → GivenTest i given → len ≡ countedLength n (i .«string_count») → number ≡ cond (not given) 7 (cond (ltb room len) 20 0)
-        → number ≡ writeRefusal i room
-    number-is given len number g e q = q ∙ ap (λ (x : ℕ). cond (not given) 7 (cond (ltb room x) 20 0)) e ∙ by-test given (sym (g .answer))
-
   module _ (room : ℕ) (z : writeRefusal i room ≡ 0) where
     -- a call that is not refused has a valid record
-    pub is-valid : valid i ≡ true
+    is-valid : valid i ≡ true
     unfolding writeRefusal
     is-valid = by-valid (valid i) refl
       where
@@ -53,7 +43,7 @@ module _ (i : Instrument) where
         by-valid false e = let q : _≡_ {A = ℕ} 7 0 = rw e at z in absurd (omega arith)
 
     -- and room for the file
-    pub has-room : length (encode i) ≤ room
+    has-room : length (encode i) ≤ room
     unfolding writeRefusal
     has-room = by-room (ltb room (length (encode i))) refl
       where
@@ -61,16 +51,44 @@ module _ (i : Instrument) where
         by-room true e = let q : _≡_ {A = ℕ} 20 0 = rw (is-valid, e) at z in absurd (omega arith)
         by-room false e = ltb-false room (length (encode i)) e
 
-  pub writes : (bytes bytes′ : List ℕ) (given : Bool) (len : ℕ) → GivenTest i given → valid i ≡ true → len ≡ countedLength n (i .«string_count») → length (encode i) ≤ length bytes
-      → bytes′ ≡ sets bytes 0 (encode i) → Writes i bytes (wrote len) bytes′
-  writes bytes bytes′ given len g v q h e =
-      let f = encode i in
-      let by = g .every (g .answer ∙ v) in
-      let same = read-encode (by .file) (by .bytes) i (by .reads) in
-      let size : len ≡ length f = q ∙ length-counted i v in
-      let file : bytes′ ≡ f ++ drop (length f) bytes = e ∙ sets-eq f bytes 0 (omega arith) ∙ ap (λ (k : ℕ). f ++ drop k bytes) (zero-add (length f)) in
-      record {
-        answer = ap wrote size;
-        file = file;
-        back = ap (λ (k : ℕ). readOf (take k bytes′)) size ∙ ap (λ (x : List ℕ). readOf (take (length f) x)) file ∙ ap readOf (take-append-seam f (drop (length f) bytes) ∙ same) ∙ by .reads;
-      }
+  -- a call that was told `given` and `len`, and found `number` by them
+  module _ (bytes : List ℕ) (given : Bool) (len number : ℕ) (test : GivenTest i given) (size : len ≡ countedLength n (i .«string_count»))
+      (found : number ≡ cond (not given) 7 (cond (ltb (length bytes) len) 20 0)) where
+    by-test : (t : Bool) → valid i ≡ t → cond (not t) 7 (cond (ltb (length bytes) (countedLength n (i .«string_count»))) 20 0) ≡ writeRefusal i (length bytes)
+    unfolding writeRefusal
+    by-test true v = rw (v, length-counted i v)
+    by-test false v = rw v
+
+    -- it is the promised number: where the record is wrong, its length does not matter
+    number-is : number ≡ writeRefusal i (length bytes)
+    number-is = found ∙ ap (λ (x : ℕ). cond (not given) 7 (cond (ltb (length bytes) x) 20 0)) size ∙ by-test given (sym (test .answer))
+
+    pub call-refused : (number ≡ 0 → ⊥) → WriteMeets i bytes (notWritten number) bytes
+    call-refused h = meets-refused number number-is h (refl, refl)
+
+    module _ (z : number ≡ 0) where
+      none : writeRefusal i (length bytes) ≡ 0
+      none = sym number-is ∙ z
+
+      pub may-store : (valid i ≡ true) × (length (encode i) ≤ length bytes)
+      may-store = (is-valid (length bytes) none, has-room (length bytes) none)
+
+      pub call-writes : (bytes′ : List ℕ) → bytes′ ≡ sets bytes 0 (encode i) → WriteMeets i bytes (wrote len) bytes′
+      call-writes bytes′ e =
+          let f = encode i in
+          let v = is-valid (length bytes) none in
+          let by = test .every (test .answer ∙ v) in
+          let same = read-encode (by .file) (by .bytes) i (by .reads) in
+          let whole : len ≡ length f = size ∙ length-counted i v in
+          let room = has-room (length bytes) none in
+          let file : bytes′ ≡ f ++ drop (length f) bytes = e ∙ sets-eq f bytes 0 (omega arith) ∙ ap (λ (k : ℕ). f ++ drop k bytes) (zero-add (length f)) in
+          meets-accepted number number-is z
+          (record {
+            answer = ap wrote whole;
+            file = file;
+            back =
+                ap (λ (k : ℕ). readOf (take k bytes′)) whole
+                ∙ ap (λ (x : List ℕ). readOf (take (length f) x)) file
+                ∙ ap readOf (take-append-seam f (drop (length f) bytes) ∙ same)
+                ∙ by .reads;
+          })

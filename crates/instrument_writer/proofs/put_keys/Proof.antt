@@ -25,68 +25,28 @@ loop-holds c =
     (refl, refl, at-none (a .t3) (a .p) (length (a .b .now)) (start .pre .0) (start .pre .1), refl)
 
 mul-key : tie.Need-mul-key Inv-loop μ-loop
-mul-key c =
-    let at = c .before in
-    let l = at .loop in
-    let a = at .before .before .before .args in
-    let fits = key-fits (a .t3) (a .p) (length (a .b .now)) (l .at) (l .m) (l .k) (l .inv .2) (omega arith) in
-    omega arith
+mul-key c = let fits = key-fits _ _ _ _ _ _ (c .before .loop .inv .2) (omega arith) in omega arith
 
 element-copy-out-key : tie.Need-element-copy-out-key Inv-loop μ-loop
-element-copy-out-key c =
-    let at = c .before in
-    let l = at .loop in
-    let a = at .before .before .before .args in
-    let fits = key-fits (a .t3) (a .p) (length (a .b .now)) (l .at) (l .m) (l .k) (l .inv .2) (omega arith) in
-    omega arith
+element-copy-out-key c = let fits = key-fits _ _ _ _ _ _ (c .before .loop .inv .2) (omega arith) in omega arith
 
 put-key-requires : tie.Need-put-key-requires Inv-loop μ-loop
-put-key-requires c κs =
-    let at = c .before .before .before in
-    let l = at .loop in
-    let a = at .before .before .before .args in
-    let fits = key-fits (a .t3) (a .p) (length (a .b .now)) (l .at) (l .m) (l .k) (l .inv .2) (omega arith) in
-    (omega arith, omega arith, omega arith)
+put-key-requires c κs = let fits = key-fits _ _ _ _ _ _ (c .before .before .before .loop .inv .2) (omega arith) in (omega arith, omega arith, omega arith)
 
 mul-at : tie.Need-mul-at Inv-loop μ-loop
-mul-at c =
-    let at = c .before .before .before .before .before .before .before in
-    let l = at .loop in
-    let a = at .before .before .before .args in
-    let fits = key-fits (a .t3) (a .p) (length (a .b .now)) (l .at) (l .m) (l .k) (l .inv .2) (omega arith) in
-    omega arith
+mul-at c = let fits = key-fits _ _ _ _ _ _ (c .before .before .before .before .before .before .before .loop .inv .2) (omega arith) in omega arith
 
 add-at : tie.Need-add-at Inv-loop μ-loop
-add-at c =
-    let at = c .before .before .before .before .before .before .before in
-    let l = at .loop in
-    let a = at .before .before .before .args in
-    let fits = key-fits (a .t3) (a .p) (length (a .b .now)) (l .at) (l .m) (l .k) (l .inv .2) (omega arith) in
-    omega arith
+add-at c = let fits = key-fits _ _ _ _ _ _ (c .before .before .before .before .before .before .before .loop .inv .2) (omega arith) in omega arith
 
 add-at-2 : tie.Need-add-at-2 Inv-loop μ-loop
-add-at-2 c =
-    let at = c .before .before .before .before .before .before .before in
-    let l = at .loop in
-    let a = at .before .before .before .args in
-    let fits = key-fits (a .t3) (a .p) (length (a .b .now)) (l .at) (l .m) (l .k) (l .inv .2) (omega arith) in
-    omega arith
+add-at-2 c = let fits = key-fits _ _ _ _ _ _ (c .before .before .before .before .before .before .before .loop .inv .2) (omega arith) in omega arith
 
 add-m : tie.Need-add-m Inv-loop μ-loop
-add-m c =
-    let at = c .before .before .before .before .before .before .before .before in
-    let l = at .loop in
-    let a = at .before .before .before .args in
-    let fits = key-fits (a .t3) (a .p) (length (a .b .now)) (l .at) (l .m) (l .k) (l .inv .2) (omega arith) in
-    omega arith
+add-m c = let fits = key-fits _ _ _ _ _ _ (c .before .before .before .before .before .before .before .before .loop .inv .2) (omega arith) in omega arith
 
 add-k : tie.Need-add-k Inv-loop μ-loop
-add-k c =
-    let at = c .before .before .before .before .before .before .before .before in
-    let l = at .loop in
-    let a = at .before .before .before .args in
-    let fits = key-fits (a .t3) (a .p) (length (a .b .now)) (l .at) (l .m) (l .k) (l .inv .2) (omega arith) in
-    omega arith
+add-k c = let fits = key-fits _ _ _ _ _ _ (c .before .before .before .before .before .before .before .before .loop .inv .2) (omega arith) in omega arith
 
 loop-less : tie.Need-loop-less Inv-loop μ-loop
 loop-less c = omega arith

@@ -31,76 +31,31 @@ loop-holds c =
     (refl, refl, pair-none (a .t2) (length (a .b .now)) (c .before .pre .0) (c .before .pre .1), refl)
 
 mul-key : tie.Need-mul-key Inv-loop μ-loop
-mul-key c =
-    let at = c .before in
-    let l = at .loop in
-    let a = at .before .before .args in
-    let fits = pair-fits (a .t2) (length (a .b .now)) (l .offset) (l .k) (l .inv .2) (omega arith) in
-    omega arith
+mul-key c = let fits = pair-fits _ _ _ _ (c .before .loop .inv .2) (omega arith) in omega arith
 
 element-copy-out-key : tie.Need-element-copy-out-key Inv-loop μ-loop
-element-copy-out-key c =
-    let at = c .before in
-    let l = at .loop in
-    let a = at .before .before .args in
-    let fits = pair-fits (a .t2) (length (a .b .now)) (l .offset) (l .k) (l .inv .2) (omega arith) in
-    omega arith
+element-copy-out-key c = let fits = pair-fits _ _ _ _ (c .before .loop .inv .2) (omega arith) in omega arith
 
 mul-size : tie.Need-mul-size Inv-loop μ-loop
-mul-size c =
-    let at = c .before .before .before in
-    let l = at .loop in
-    let a = at .before .before .args in
-    let fits = pair-fits (a .t2) (length (a .b .now)) (l .offset) (l .k) (l .inv .2) (omega arith) in
-    omega arith
+mul-size c = let fits = pair-fits _ _ _ _ (c .before .before .before .loop .inv .2) (omega arith) in omega arith
 
 add-size : tie.Need-add-size Inv-loop μ-loop
-add-size c =
-    let at = c .before .before .before in
-    let l = at .loop in
-    let a = at .before .before .args in
-    let fits = pair-fits (a .t2) (length (a .b .now)) (l .offset) (l .k) (l .inv .2) (omega arith) in
-    omega arith
+add-size c = let fits = pair-fits _ _ _ _ (c .before .before .before .loop .inv .2) (omega arith) in omega arith
 
 mul-put-pair : tie.Need-mul-put-pair Inv-loop μ-loop
-mul-put-pair c =
-    let at = c .before .before .before .before in
-    let l = at .loop in
-    let a = at .before .before .args in
-    let fits = pair-fits (a .t2) (length (a .b .now)) (l .offset) (l .k) (l .inv .2) (omega arith) in
-    omega arith
+mul-put-pair c = let fits = pair-fits _ _ _ _ (c .before .before .before .before .loop .inv .2) (omega arith) in omega arith
 
 add-put-pair : tie.Need-add-put-pair Inv-loop μ-loop
-add-put-pair c =
-    let at = c .before .before .before .before in
-    let l = at .loop in
-    let a = at .before .before .args in
-    let fits = pair-fits (a .t2) (length (a .b .now)) (l .offset) (l .k) (l .inv .2) (omega arith) in
-    omega arith
+add-put-pair c = let fits = pair-fits _ _ _ _ (c .before .before .before .before .loop .inv .2) (omega arith) in omega arith
 
 put-pair-requires : tie.Need-put-pair-requires Inv-loop μ-loop
-put-pair-requires c κs =
-    let at = c .before .before .before .before in
-    let l = at .loop in
-    let a = at .before .before .args in
-    let fits = pair-fits (a .t2) (length (a .b .now)) (l .offset) (l .k) (l .inv .2) (omega arith) in
-    (omega arith, omega arith, omega arith)
+put-pair-requires c κs = let fits = pair-fits _ _ _ _ (c .before .before .before .before .loop .inv .2) (omega arith) in (omega arith, omega arith, omega arith)
 
 add-offset-2 : tie.Need-add-offset-2 Inv-loop μ-loop
-add-offset-2 c =
-    let at = c .before .before .before .before .before .before .before in
-    let l = at .loop in
-    let a = at .before .before .args in
-    let fits = pair-fits (a .t2) (length (a .b .now)) (l .offset) (l .k) (l .inv .2) (omega arith) in
-    omega arith
+add-offset-2 c = let fits = pair-fits _ _ _ _ (c .before .before .before .before .before .before .before .loop .inv .2) (omega arith) in omega arith
 
 add-k : tie.Need-add-k Inv-loop μ-loop
-add-k c =
-    let at = c .before .before .before .before .before .before .before in
-    let l = at .loop in
-    let a = at .before .before .args in
-    let fits = pair-fits (a .t2) (length (a .b .now)) (l .offset) (l .k) (l .inv .2) (omega arith) in
-    omega arith
+add-k c = let fits = pair-fits _ _ _ _ (c .before .before .before .before .before .before .before .loop .inv .2) (omega arith) in omega arith
 
 loop-less : tie.Need-loop-less Inv-loop μ-loop
 loop-less c = omega arith

@@ -1,8 +1,5 @@
--- `write` meets its contract: its number is the promised one (`number-is`), a refused call has stored nothing, and an accepted one the file (`writes`).
-use mathlib.Core.Path.{refl, sym, _∙_}
-use lib.ListN.{length}
-use Rattle.counting.specs.Meets.{meets-refused, meets-accepted}
-use Rattle.instrument_writer.proofs.Whole.{number-is, is-valid, has-room, writes}
+-- Its number is the promised one; a refused call has stored nothing (`call-refused`), and an accepted one the file (`call-writes`).
+use Rattle.instrument_writer.proofs.Whole.{call-refused, may-store, call-writes}
 use borrow.Author.Needs.{needs}
 use Rattle.instrument_writer.proofs.write.Statement.{statement}
 use Rattle.instrument_writer.proofs.write.Tie as tie
@@ -19,40 +16,23 @@ refusal-of-requires c κs = search needs
 returns : tie.Need-returns
 returns c =
     let tested = c .before in
-    let counted = tested .before in
-    let given = counted .before in
-    let a = given .before .before .args in
-    let room = length (a .bytes .now) in
-    let found = number-is (a .i) room _ _ _ (given .is-given .ensures) (counted .file-length .ensures) (tested .refusal-of .ensures) in
-    meets-refused _ found (c .if1 .taken) (refl, refl)
+    call-refused _ _ _ _ _ (tested .before .before .is-given .ensures) (tested .before .file-length .ensures) (tested .refusal-of .ensures) (c .if1 .taken)
 
 put-file-requires : tie.Need-put-file-requires
 put-file-requires c κs =
     let tested = c .before .before in
-    let counted = tested .before in
-    let given = counted .before in
-    let a = given .before .before .args in
-    let room = length (a .bytes .now) in
-    let found = number-is (a .i) room _ _ _ (given .is-given .ensures) (counted .file-length .ensures) (tested .refusal-of .ensures) in
-    let none = sym found ∙ c .before .if1 .left in
-    (is-valid (a .i) room none, has-room (a .i) room none)
+    let bytes = tested .before .before .before .before .args .bytes .now in
+    may-store _ bytes _ _ _ (tested .before .before .is-given .ensures) (tested .before .file-length .ensures) (tested .refusal-of .ensures) (c .before .if1 .left)
 
 same-length : tie.Need-same-length
 same-length c = search needs
 
 returns-2 : tie.Need-returns-2
 returns-2 c =
-    let tested = c .before .before .before .before .before in
-    let counted = tested .before in
-    let given = counted .before in
-    let a = given .before .before .args in
-    let room = length (a .bytes .now) in
-    let found = number-is (a .i) room _ _ _ (given .is-given .ensures) (counted .file-length .ensures) (tested .refusal-of .ensures) in
     let store = c .before .before in
-    let zero = store .before .before .if1 .left in
-    let none = sym found ∙ zero in
-    meets-accepted _ found zero
-    (writes (a .i) (a .bytes .now) _ _ _ (given .is-given .ensures) (is-valid (a .i) room none) (counted .file-length .ensures) (has-room (a .i) room none) (store .put-file .ensures))
+    let passed = store .before .before in
+    let tested = passed .before in
+    call-writes _ _ _ _ _ (tested .before .before .is-given .ensures) (tested .before .file-length .ensures) (tested .refusal-of .ensures) (passed .if1 .left) _ (store .put-file .ensures)
 
 pub write-spec : {M : Type 1} → statement M
 write-spec =
