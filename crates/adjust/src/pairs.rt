@@ -179,7 +179,7 @@ pub fn with_pairs(given: Arguments, instrument: Instrument) -> Instrument {
 }
 
 // The first pair that alone makes the record wrong, or how many pairs there are.
-fn first_wrong(given: Arguments, instrument: Instrument) -> usize {
+fn first_refused(given: Arguments, instrument: Instrument) -> usize {
     let pairs = pair_count(given);
     for i in 0..pairs {
         if !instrument::is_valid(with_pair(instrument, pair_at(given, i))) {
@@ -203,7 +203,7 @@ fn put_weight_refusal(line: &mut [u8], given: Arguments, i: usize, refusal: u32)
 
 // The writer's refusal, and which weight it is due to: the record test itself tells, asked with each pair alone.
 pub fn refuse(given: Arguments, instrument: Instrument, path: &[u8], refusal: u32) {
-    let i = first_wrong(given, instrument);
+    let i = first_refused(given, instrument);
     if i == pair_count(given) {
         instrument_input::answer_refusal(b"adjust", path, refusal);
         return;

@@ -1,8 +1,8 @@
 -- Safe and ending: the pairs are counted. Assumes nothing.
 use Prim.Native.Nat.{_≤_, _-_}
 use borrow.Author.Needs.{needs}
-use Rattle.adjust.proofs.pairs.first_wrong.Statement.{statement}
-use Rattle.adjust.proofs.pairs.first_wrong.Tie as tie
+use Rattle.adjust.proofs.pairs.first_refused.Statement.{statement}
+use Rattle.adjust.proofs.pairs.first_refused.Tie as tie
 
 abbrev Inv-loop : tie.InvT-loop
 Inv-loop given instrument pairs i₀ i = i ≤ pairs
@@ -40,8 +40,8 @@ loop-again c = search needs
 returns-2 : tie.Need-returns-2 Inv-loop μ-loop
 returns-2 c = search needs
 
-pub first-wrong-spec : {M : Type 1} → statement M
-first-wrong-spec =
+pub first-refused-spec : {M : Type 1} → statement M
+first-refused-spec =
     tie.close
     (tie.spec
     Inv-loop
