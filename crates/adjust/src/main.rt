@@ -3,8 +3,7 @@
 mod pairs;
 
 use instrument::Instrument;
-use instrument_input::load_from;
-use instrument_writer::LONGEST;
+use instrument_writer::LONGEST_FILE;
 use libc::STDERR_FILENO;
 use little_endian::part;
 use program::arguments;
@@ -12,7 +11,6 @@ use program::arguments::Arguments;
 use program::arguments::DONE;
 use program::arguments::REFUSED;
 use program::arguments::WRONG;
-use program::input;
 use program::output;
 use program::replacement;
 use program::streams;
@@ -49,7 +47,7 @@ fn is_free(out: &[u8]) -> bool {
 
 // A record that the writer refuses is a refused instrument, as a file is that the reader refuses. The bytes hold the longest file, so it refuses none by 20.
 fn write_adjusted(given: Arguments, instrument: Instrument, path: &[u8], out: &[u8]) -> u8 {
-    let mut bytes = [0u8; LONGEST];
+    let mut bytes = [0u8; LONGEST_FILE];
     let answer = instrument_writer::write(pairs::with_pairs(given, instrument), &mut bytes);
     if answer.refusal != 0 {
         pairs::refuse(given, instrument, path, answer.refusal);
@@ -61,17 +59,8 @@ fn write_adjusted(given: Arguments, instrument: Instrument, path: &[u8], out: &[
     replace_out(out, part(&bytes, 0, answer.length))
 }
 
-// Answers and messages may not go into the instrument, which is asked before it can be refused.
 fn adjust(given: Arguments, path: &[u8], out: &[u8]) -> u8 {
-    let source = input::open(b"adjust", path);
-    if source.fd < 0 {
-        return WRONG;
-    }
-    let used = output::in_use(source.file, source.file);
-    if !output::are_streams_apart(b"adjust", used) {
-        return WRONG;
-    }
-    let loaded = load_from(b"adjust", path, source);
+    let loaded = instrument_input::load(b"adjust", path);
     if loaded.status != DONE {
         return loaded.status;
     }

@@ -10,6 +10,7 @@ use program::input;
 use program::input::Input;
 use program::kind;
 use program::message::complain_of;
+use program::output;
 use program::streams;
 use std::num::wrapping_add_u64;
 
@@ -131,16 +132,21 @@ fn read(program: &[u8], path: &[u8], fd: i32, file: FileStatus) -> Loaded {
     accept(program, path, part(&bytes, 0, read.count), file)
 }
 
-// Of a file that is open, or that could not be opened, which has been said; it is closed.
-pub fn load_from(program: &[u8], path: &[u8], source: Input) -> Loaded {
-    if source.fd < 0 {
+// Answers and messages may not go into the file, which is asked before it can be refused: the refusal would go there too.
+fn load_from(program: &[u8], path: &[u8], source: Input) -> Loaded {
+    let used = output::in_use(source.file, source.file);
+    if !output::are_streams_apart(program, used) {
         return without(WRONG, source.file);
     }
-    let loaded = read(program, path, source.fd, source.file);
-    libc::close(source.fd);
-    loaded
+    read(program, path, source.fd, source.file)
 }
 
 pub fn load(program: &[u8], path: &[u8]) -> Loaded {
-    load_from(program, path, input::open(program, path))
+    let source = input::open(program, path);
+    if source.fd < 0 {
+        return without(WRONG, source.file);
+    }
+    let loaded = load_from(program, path, source);
+    libc::close(source.fd);
+    loaded
 }

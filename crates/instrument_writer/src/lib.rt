@@ -23,7 +23,7 @@ ghost use Rattle.instrument_writer.specs.Pieces.{pairBytes, tableBytes, 
 ghost use Rattle.instrument_writer.specs.Write.{WriteMeets};
 
 // No instrument's file is longer: 16 keys and 32 strings.
-pub const LONGEST: usize = 2200;
+pub const LONGEST_FILE: usize = 2200;
 
 // The refusal's number, 0 for none; how many bytes the file has, 0 where it is refused.
 pub struct WriteAnswer {
