@@ -7,6 +7,7 @@ mod writer;
 use comparison::design::LoopDesign;
 use comparison::exports::Record;
 use comparison::instrument::{chained, read, Common, Instrument, Key, COMMON_RANGES, KEY_RANGES, STRING_RANGES};
+use comparison::power::words;
 use std::collections::BTreeMap;
 use std::process::exit;
 use writer::{answer, file_of, Writings};
@@ -107,7 +108,9 @@ fn record(rng: &mut Rng, counts: &[u64]) -> Record {
     let mut r = Record::ZEROS;
     r.numbers[0] = counts.len() as u64;
     r.numbers[1] = counts.iter().sum();
-    r.numbers[2] = 2 + rng.below(9) as u64;
+    // two words in three are of quarters
+    let words: Vec<u32> = words().collect();
+    r.numbers[2] = words[rng.below(words.len())] as u64;
     for k in 0..9 {
         r.floats[k] = rng.within(COMMON_RANGES[k]);
     }
@@ -163,6 +166,10 @@ fn crowded(rng: &mut Rng, total: u64) -> Vec<Vec<u8>> {
     }
     out
 }
+
+/// At, beside and beyond the ends of the halves and of the quarters; the last but one are right in their low bits alone.
+const EXPONENTS: [u32; 22] =
+    [0, 1, 2, 3, 9, 10, 11, 255, 256, 258, 259, 260, 261, 262, 275, 276, 277, 512, 517, 65_538, 65_796, u32::MAX];
 
 const SPECIAL: [f64; 8] = [f64::NAN, -f64::NAN, f64::INFINITY, f64::NEG_INFINITY, 0.0, -0.0, 5e-324, -5e-324];
 
@@ -321,7 +328,7 @@ fn files(rng: &mut Rng) -> Run {
                 run.file("n or ap_count at an end or beyond it", &chained(&s));
             }
         }
-        for h in [0u32, 1, 2, 3, 9, 10, 11, 255, 256, 0x1_0002, u32::MAX] {
+        for h in EXPONENTS {
             let mut s = base.clone();
             put(&mut s[0], 72, &h.to_le_bytes());
             run.file("exponent at an end or beyond it", &chained(&s));
@@ -431,7 +438,10 @@ fn files(rng: &mut Rng) -> Run {
 fn set_to_anything(rng: &mut Rng, r: &mut Record) {
     for _ in 0..rng.below(3) {
         match rng.below(8) {
-            0 => r.numbers[rng.below(3)] = [0, 1, 2, 10, 11, 16, 17, 32, 33, u64::MAX][rng.below(10)],
+            0 => {
+                let numbers = [0, 1, 2, 10, 11, 16, 17, 32, 33, 259, 260, 276, 277, u64::MAX];
+                r.numbers[rng.below(3)] = numbers[rng.below(numbers.len())];
+            }
             1 => r.numbers[3 + rng.below(48)] = [0, 1, 2, 3, 4, 255, u64::MAX][rng.below(7)],
             2 => r.numbers[51 + rng.below(64)] = [0, 3, 4, 66, 67, 2000, 2001, u64::MAX][rng.below(8)],
             3 => {
@@ -489,7 +499,7 @@ fn compare() {
     writer::compare(&mut rng, &mut run.writings);
     let mut enough = run.writings.report();
     enough &= run.files >= 20000 && run.answers.iter().all(|&n| n >= 200) && seen.iter().all(|&n| n >= 200);
-    enough &= run.kinds["stored"] >= 15;
+    enough &= run.kinds["stored"] >= 22;
     println!("{}", if enough { "no difference" } else { "TOO FEW of some kind" });
     if !enough {
         exit(1);
@@ -562,6 +572,12 @@ fn data(dir: &str) {
     let mut s = three.clone();
     s[1][3] = 1;
     save("fourth_byte", &chained(&s));
+    // the felt's exponent beyond halves, at and beyond the ends of quarters, and 1.5 in both
+    for h in [3u32, 262, 260, 276, 11, 259, 277] {
+        let mut s = three.clone();
+        put(&mut s[0], 72, &h.to_le_bytes());
+        save(&format!("exponent_{h}"), &chained(&s));
+    }
     save("thirty_three", &chained(&crowded(&mut rng, 33)));
     let mut s = three.clone();
     s[3][0] = s[1][0];

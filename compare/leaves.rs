@@ -1,11 +1,11 @@
-//! Compares each proved leaf with the Rust: the root with the processor's, the power with document 01's, and the
-//! rest with the patched model.rs. With a file's name it also writes a sample of the answers there.
+//! Compares each proved leaf with the Rust: the root with the processor's, the power with documents 01's and 02's, and
+//! the rest with the patched model.rs. With a file's name it also writes a sample of the answers there.
 
 use comparison::common::{alike, all_alike, edges, word, Random, Tally};
 use comparison::design::LoopDesign;
 use comparison::exports::{self, *};
 use comparison::model::inside::{self, Filters};
-use comparison::power::power;
+use comparison::power::{power, words, QUARTERS};
 
 // ---- root
 
@@ -81,28 +81,51 @@ fn roots(stride: u64) -> Tally {
 
 // ---- power, and the float operations
 
-fn power_of(tally: &mut Tally, x: f64, h: u32) {
-    let (rust, rattle) = (power(x, h), leaf_power(x, h));
-    tally.answer(alike(rust, rattle), &[word(x), h as u64], &[word(rust)], &[word(rattle)]);
+fn power_of(tally: &mut Tally, x: f64, exponent: u32) {
+    let (rust, rattle) = (power(x, exponent), leaf_power(x, exponent));
+    tally.answer(alike(rust, rattle), &[word(x), exponent as u64], &[word(rust)], &[word(rattle)]);
 }
 
+/// Every edge, any pattern, and ordinary sizes.
+fn on_numbers(random: &mut Random, mut f: impl FnMut(f64)) {
+    edges().iter().for_each(|x| f(*x));
+    for _ in 0..10_000 {
+        f(random.any());
+        f(random.magnitude(-30.0, 30.0));
+    }
+}
+
+/// The words of instruments, those beside them, and some that are far from any.
 fn powers(stride: u64) -> Tally {
     let mut tally = Tally::new("power", stride);
     let mut random = Random::new(2);
-    for h in 0..=12 {
-        for &x in edges() {
-            power_of(&mut tally, x, h);
-        }
-        for _ in 0..10_000 {
-            power_of(&mut tally, random.any(), h);
-            power_of(&mut tally, random.magnitude(-30.0, 30.0), h);
+    for exponent in (0..=12).chain(QUARTERS..=QUARTERS + 22) {
+        on_numbers(&mut random, |x| power_of(&mut tally, x, exponent));
+    }
+    for exponent in [13, 14, 31, 64, 65, 255, 317, 318, 319, 320, 512, 1000, 1001] {
+        for _ in 0..500 {
+            power_of(&mut tally, random.between(0.9, 1.1), exponent);
+            power_of(&mut tally, random.edge(), exponent);
         }
     }
-    for h in [13, 14, 31, 64, 65, 1000, 1001] {
-        for _ in 0..500 {
-            power_of(&mut tally, random.between(0.9, 1.1), h);
-            power_of(&mut tally, random.edge(), h);
+    for exponent in [QUARTERS + 5, QUARTERS + 7] {
+        for &x in edges() {
+            tally.keep(&[word(x), exponent as u64], &[word(power(x, exponent))]);
         }
+    }
+    tally
+}
+
+/// Quarters 2h beside halves h, bit for bit: the proved power of either, and the Rust's of the halves.
+fn powers_of_both() -> Tally {
+    let mut tally = Tally::new("power, both", 0);
+    let mut random = Random::new(15);
+    for h in 0..=12 {
+        on_numbers(&mut random, |x| {
+            let rust = word(power(x, h));
+            let rattle = [h, QUARTERS + 2 * h].map(|exponent| word(leaf_power(x, exponent)));
+            tally.answer(rattle == [rust; 2], &[word(x), h as u64], &[rust], &rattle);
+        });
     }
     tally
 }
@@ -194,7 +217,7 @@ struct Contact {
 
 fn force_of(tally: &mut Tally, random: &mut Random, c: Contact) {
     let [eps, mass, tau] = [random.any(), random.any(), random.any()];
-    let rust = inside::contact_force(c.stiffness, c.exponent as f64 / 2.0, c.eps_r, c.c0, c.c1);
+    let rust = inside::contact_force(c.stiffness, c.exponent, c.eps_r, c.c0, c.c1);
     let rattle = leaf_contact_force(c.stiffness, c.exponent, eps, mass, tau, c.eps_r, c.c0, c.c1);
     let given = [word(c.stiffness), c.exponent as u64, word(c.eps_r), word(c.c0), word(c.c1)];
     tally.answer(alike(rust, rattle), &given, &[word(rust)], &[word(rattle)]);
@@ -211,7 +234,7 @@ fn ordinary(random: &mut Random, exponent: u32) -> Contact {
 fn forces(stride: u64) -> Tally {
     let mut tally = Tally::new("contact_force", stride);
     let mut random = Random::new(9);
-    for exponent in 2..=10 {
+    for exponent in words() {
         for turn in 0..8_000 {
             let mut c = ordinary(&mut random, exponent);
             match turn % 8 {
@@ -235,7 +258,7 @@ fn forces(stride: u64) -> Tally {
             force_of(&mut tally, &mut random, Contact { stiffness, exponent, eps_r, c0: c0.abs(), c1 });
         }
     }
-    for exponent in [0, 1, 11, 12, 13, 40] {
+    for exponent in [0, 1, 11, 12, 13, 40, 255, 256, 259, 277, 278, 279, 512] {
         for _ in 0..500 {
             let c = ordinary(&mut random, exponent);
             force_of(&mut tally, &mut random, c);
@@ -436,13 +459,14 @@ fn main() {
     let stride = |one_in: u64| if sample.is_some() { one_in } else { 0 };
     let tallies = [
         roots(stride(1_700)),
-        powers(stride(1_000)),
+        powers(stride(2_300)),
+        powers_of_both(),
         minima(stride(1_000)),
         maxima(stride(1_000)),
         clamps(stride(1_500)),
         positive_parts(stride(2_000)),
         roundings(stride(2_000)),
-        forces(stride(500)),
+        forces(stride(1_300)),
         cuts(stride(500)),
         allpasses(stride(800)),
         rows(stride(3_000)),

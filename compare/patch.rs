@@ -39,10 +39,10 @@ const COUNT: &str = "A sample in contact counts for the struck key";
 
 const PATCHES: [Patch; 8] = [
     Patch {
-        reason: "`powf` is replaced, also in the Rust that we compare with",
+        reason: "`powf` is replaced, also in the Rust that we compare with; W5: the Rust run gets this power too",
         kinds: &[Kind::Compared, Kind::Timed, Kind::Logged],
         from: ".powf(",
-        to: ".power_in_half_steps(",
+        to: ".power_of_word(",
         times: 3,
     },
     Patch {
@@ -98,7 +98,7 @@ const PATCHES: [Patch; 8] = [
 
 /// A child module sees the private items of its parent; a `use` may stand anywhere in a module.
 const APPENDED: &str = "
-use crate::power::PowerInHalfSteps;
+use crate::power::PowerOfWord;
 #[path = \"../../compare/lib/inside.rs\"]
 pub mod inside;
 ";

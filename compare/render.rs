@@ -8,6 +8,7 @@ mod stored_renders;
 
 use comparison::common::{alike, all_alike, Random};
 use comparison::events::{in_order, opened};
+use comparison::felts::Felts;
 use comparison::gingerfile::{Console, Played, PIANO};
 use comparison::instrument::Instrument;
 use comparison::instruments::{self, pick, Size};
@@ -129,7 +130,7 @@ const ONE_COUNTED_IN: u64 = 3;
 #[derive(Default)]
 struct Counts {
     renders: BTreeMap<&'static str, u64>,
-    by_exponent: BTreeMap<u32, u64>,
+    felts: Felts,
     blocks: u64,
     samples: u64,
     sounding: u64,
@@ -166,9 +167,7 @@ impl Counts {
         for (kind, count) in &self.renders {
             println!("renders  {kind:<24} {count:>9}");
         }
-        for (h, count) in &self.by_exponent {
-            println!("renders  h = {h:<20} {count:>9}");
-        }
+        self.felts.report();
         println!("blocks   {} with their states, {} cells", self.blocks, self.cells);
         println!("samples  {} compared, {} not zero, {} infinite or NaN", self.samples, self.sounding, self.infinite);
         println!("forces   {} compared, {} above zero", self.forces, self.contacts);
@@ -182,13 +181,13 @@ impl Counts {
         println!("cues     {} in the words compared, {} gone back to", self.cues, self.steps_back);
     }
 
-    /// Whether enough renders, and cues of renders, have counts of two keys.
+    /// Whether enough renders, and cues of renders, have counts of two keys, and enough felts quarters.
     fn enough(&self) -> bool {
         let few = self.counted.iter().any(|renders| ONE_COUNTED_IN * renders < self.renders.values().sum());
         if few {
             println!("too few counts of two keys: one render in {ONE_COUNTED_IN} is wanted");
         }
-        !few
+        self.felts.enough() && !few
     }
 }
 
@@ -354,7 +353,7 @@ fn differs(
     let cells = instrument.cells();
     let (mut t, mut forces) = (0, 0);
     let mut kept: Vec<Kept> = Vec::new();
-    let mut counted = false;
+    let (mut counted, mut in_contact) = (false, false);
     for (i, &length) in blocks.iter().enumerate() {
         let (mut out, mut trace) = (vec![UNTOUCHED; length], vec![UNTOUCHED; length + 1]);
         let found = match console.play(&mut out, &mut trace) {
@@ -379,6 +378,7 @@ fn differs(
         t += length;
         forces = rust.force_trace.len();
         counted |= has_two_counted(&rust);
+        in_contact |= rust.contact_samples > 0;
         if i % 2 == 0 && kept.len() < MOST_CUES && kept.last().map_or(true, |last| last.position < t) {
             if let Err(refusal) = console.cue() {
                 return Some(format!("cue at {t}: {refusal}"));
@@ -386,6 +386,7 @@ fn differs(
             kept.push(Kept { position: t, rust });
         }
     }
+    counts.felts.add(instrument.common.h, in_contact);
     counts.counted[0] += counted as u64;
     counts.counted[1] += kept.iter().any(|cue| has_two_counted(&cue.rust)) as u64;
     steps_back_differ(counts, &kept, &mut console)
@@ -437,7 +438,6 @@ fn main() {
                 exit(1);
             }
             *counts.renders.entry(kind.name).or_insert(0) += 1;
-            *counts.by_exponent.entry(instrument.common.h).or_insert(0) += 1;
         }
     }
     counts.report();

@@ -8,6 +8,7 @@ mod lists;
 mod machine;
 
 use comparison::common::{alike, word, Random};
+use comparison::felts::Felts;
 use comparison::waves::{floats, wave, HEADER};
 use comparison::{instrument, instruments};
 use console::Answer;
@@ -209,6 +210,7 @@ struct Counts {
     /// Lists with two keys that have contact samples, those that have them at a kept cue, and those in which a step back to
     /// one changes a key's count.
     counted: [u64; 3],
+    felts: Felts,
 }
 
 /// The kind under which files that are refused are counted.
@@ -288,6 +290,7 @@ impl Counts {
         println!("contacts {sums} sums and {key_counts} counts of keys compared, {} kept cues gone back to", self.cues);
         println!("         {several} of {lists} lists have two keys or more with a count above zero, {at_cues} at a kept cue");
         println!("         {changed} with a step back to a kept cue that changes a key's count");
+        self.felts.report();
     }
 
     /// Whether so few lists have what one in `one_in` must have.
@@ -299,7 +302,7 @@ impl Counts {
         few
     }
 
-    /// Whether each refusal from 8 to 16, ties, and counts of two keys came often enough.
+    /// Whether each refusal from 8 to 16, ties, counts of two keys, and felts in quarters came often enough.
     fn enough(&self) -> bool {
         let ([tied, ahead, _], [several, at_cues, changed]) = (self.tied, self.counted);
         let few_ties = self.few("ties", tied.min(ahead), ONE_TIED_IN);
@@ -308,7 +311,7 @@ impl Counts {
         if !rare.is_empty() {
             println!("too few of the refusals {rare:?}: each is wanted {EACH_REFUSAL} times");
         }
-        rare.is_empty() && !few_ties && !few_counts
+        self.felts.enough() && rare.is_empty() && !few_ties && !few_counts
     }
 }
 
@@ -418,6 +421,7 @@ impl Comparison {
         add(&mut self.counts.lists, format!("{theme:?}"));
         self.counts.ties(list.ties);
         self.counts.contact_samples(&answers, list.cues);
+        self.counts.felts.add(list.instrument.common.h, forces.iter().any(|x| *x > 0.0));
         self.counts.answer("open", &answers[0]);
         for (line, answer) in answered(&list, &answers) {
             self.counts.answer(&kind_of(line), answer);

@@ -151,12 +151,12 @@ impl Writings {
 // ---- records
 
 /// A record that passes, and all that are like it but for one thing.
-struct Beside<'a> {
+struct Variants<'a> {
     base: &'a Record,
     records: Vec<(&'static str, Record)>,
 }
 
-impl Beside<'_> {
+impl Variants<'_> {
     /// A float set to each of these.
     fn floats(&mut self, kind: &'static str, at: usize, values: &[f64]) {
         for x in values {
@@ -187,69 +187,69 @@ fn float_place(r: &Record, at: usize) -> ((f64, f64), bool) {
 }
 
 /// Each float in turn at and past the ends of its range, NaN, infinite and -0; in an unused place anything but zero.
-fn set_floats(beside: &mut Beside) {
-    for at in 0..beside.base.floats.len() {
-        let ((low, high), used) = float_place(beside.base, at);
+fn set_floats(variants: &mut Variants) {
+    for at in 0..variants.base.floats.len() {
+        let ((low, high), used) = float_place(variants.base, at);
         if used {
-            beside.floats(MINUS_ZERO, at, &[-0.0]);
-            beside.floats(AT_END, at, &[low, high]);
-            beside.floats(PAST_END, at, &[low.next_down(), high.next_up(), low - 1.0, high + 1.0]);
-            beside.floats(NO_NUMBER, at, &[f64::NAN, -f64::NAN, f64::INFINITY, f64::NEG_INFINITY]);
+            variants.floats(MINUS_ZERO, at, &[-0.0]);
+            variants.floats(AT_END, at, &[low, high]);
+            variants.floats(PAST_END, at, &[low.next_down(), high.next_up(), low - 1.0, high + 1.0]);
+            variants.floats(NO_NUMBER, at, &[f64::NAN, -f64::NAN, f64::INFINITY, f64::NEG_INFINITY]);
         } else {
-            beside.floats(UNUSED_MINUS_ZERO, at, &[-0.0]);
-            beside.floats(UNUSED, at, &[1.0, -1.0, 5e-324, f64::NAN]);
+            variants.floats(UNUSED_MINUS_ZERO, at, &[-0.0]);
+            variants.floats(UNUSED, at, &[1.0, -1.0, 5e-324, f64::NAN]);
         }
     }
 }
 
 /// How many keys and strings there are, and the exponent. Among them are numbers that are right in their low bits.
-fn set_counts(beside: &mut Beside) {
-    let [keys, strings] = [beside.base.numbers[0], beside.base.numbers[1]];
-    beside.numbers(WRONG_COUNT, 0, &[0, 17, 16 + keys, keys - 1, keys + 1, keys + (1 << 32), u64::MAX]);
-    beside.numbers(WRONG_COUNT, 1, &[0, 33, 32 + strings, strings - 1, strings + 1, strings + (1 << 32), u64::MAX]);
-    beside.numbers(WHOLE_AT_END, 2, &[2, 10]);
-    beside.numbers(WHOLE_PAST_END, 2, &[0, 1, 11, 256 + 5, 65_536 + 5, u32::MAX as u64]);
+fn set_counts(variants: &mut Variants) {
+    let [keys, strings] = [variants.base.numbers[0], variants.base.numbers[1]];
+    variants.numbers(WRONG_COUNT, 0, &[0, 17, 16 + keys, keys - 1, keys + 1, keys + (1 << 32), u64::MAX]);
+    variants.numbers(WRONG_COUNT, 1, &[0, 33, 32 + strings, strings - 1, strings + 1, strings + (1 << 32), u64::MAX]);
+    variants.numbers(WHOLE_AT_END, 2, &[2, 10, 256 + 4, 256 + 20]);
+    variants.numbers(WHOLE_PAST_END, 2, &[0, 1, 11, 255, 256 + 3, 256 + 21, 512 + 5, 65_536 + 5, u32::MAX as u64]);
 }
 
 /// The number of each key and of its strings.
-fn set_keys(beside: &mut Beside) {
-    let base = beside.base;
+fn set_keys(variants: &mut Variants) {
+    let base = variants.base;
     for i in 0..base.numbers[0] as usize {
         let at = 3 + 3 * i;
         let strings = base.numbers[at + 2];
-        beside.numbers(WRONG_STRINGS, at + 2, &[0, 4, strings + 1, strings - 1, strings + 256, u64::MAX]);
+        variants.numbers(WRONG_STRINGS, at + 2, &[0, 4, strings + 1, strings - 1, strings + 256, u64::MAX]);
         for j in (3..at).step_by(3) {
-            beside.numbers(KEY_TWICE, at, &[base.numbers[j]]);
+            variants.numbers(KEY_TWICE, at, &[base.numbers[j]]);
             // as many strings in all, where a sum wraps
             let mut r = base.clone();
             r.numbers[at + 2] = u64::MAX;
             r.numbers[j + 2] += strings + 1;
-            beside.records.push((WRONG_STRINGS, r));
+            variants.records.push((WRONG_STRINGS, r));
         }
     }
 }
 
 /// n and ap_count of each string.
-fn set_strings(beside: &mut Beside) {
-    for j in 0..beside.base.numbers[1] as usize {
+fn set_strings(variants: &mut Variants) {
+    for j in 0..variants.base.numbers[1] as usize {
         let (n, stages) = (51 + 2 * j, 52 + 2 * j);
-        beside.numbers(WHOLE_AT_END, n, &[4, 2_000]);
-        beside.numbers(WHOLE_PAST_END, n, &[0, 3, 2_001, 65_536 + 100, u64::MAX]);
-        beside.numbers(WHOLE_AT_END, stages, &[0, 66]);
-        beside.numbers(WHOLE_PAST_END, stages, &[67, 65_536, u64::MAX]);
+        variants.numbers(WHOLE_AT_END, n, &[4, 2_000]);
+        variants.numbers(WHOLE_PAST_END, n, &[0, 3, 2_001, 65_536 + 100, u64::MAX]);
+        variants.numbers(WHOLE_AT_END, stages, &[0, 66]);
+        variants.numbers(WHOLE_PAST_END, stages, &[67, 65_536, u64::MAX]);
     }
 }
 
 /// Whole numbers in the places past the last key and the last string; has_damper is 0 or 1.
-fn set_unused(beside: &mut Beside) {
-    let [keys, strings] = [beside.base.numbers[0], beside.base.numbers[1]].map(|n| n as usize);
+fn set_unused(variants: &mut Variants) {
+    let [keys, strings] = [variants.base.numbers[0], variants.base.numbers[1]].map(|n| n as usize);
     for at in (3 + 3 * keys..51).step_by(3) {
-        beside.numbers(UNUSED, at, &[1, 255]);
-        beside.numbers(UNUSED, at + 1, &[1]);
-        beside.numbers(UNUSED, at + 2, &[1, 256, u64::MAX]);
+        variants.numbers(UNUSED, at, &[1, 255]);
+        variants.numbers(UNUSED, at + 1, &[1]);
+        variants.numbers(UNUSED, at + 2, &[1, 256, u64::MAX]);
     }
     for at in 51 + 2 * strings..115 {
-        beside.numbers(UNUSED, at, &[1, 65_536, u64::MAX]);
+        variants.numbers(UNUSED, at, &[1, 65_536, u64::MAX]);
     }
 }
 
@@ -285,11 +285,11 @@ pub fn compare(rng: &mut Rng, writings: &mut Writings) {
     for counts in [vec![1], vec![2; 16], vec![1; 16], vec![3, 1], vec![1, 2, 3], vec![3; 10]] {
         let base = record(rng, &counts);
         let need = file_of(&base).unwrap().len();
-        let mut beside = Beside { base: &base, records: Vec::new() };
+        let mut variants = Variants { base: &base, records: Vec::new() };
         for set in [set_floats, set_counts, set_keys, set_strings, set_unused] {
-            set(&mut beside);
+            set(&mut variants);
         }
-        for (kind, r) in beside.records {
+        for (kind, r) in variants.records {
             writings.record(kind, &r, need);
         }
     }

@@ -4,6 +4,7 @@ use std::cell::RefCell;
 
 thread_local!(static LOG: RefCell<Vec<[f64; 5]>> = const { RefCell::new(Vec::new()) });
 
+/// `p` is the felt's word, as a float.
 pub fn log(stiffness: f64, p: f64, eps_r: f64, c0: f64, c1: f64) {
     LOG.with(|log| log.borrow_mut().push([stiffness, p, eps_r, c0, c1]));
 }

@@ -149,7 +149,7 @@ pub fn writes(record: &Crossing, bytes: &mut [u8]) -> (u32, usize) {
 #[rustfmt::skip]
 unsafe extern "C" {
     pub safe fn leaf_root(x: f64) -> f64;
-    pub safe fn leaf_power(x: f64, h: u32) -> f64;
+    pub safe fn leaf_power(x: f64, word: u32) -> f64;
     pub safe fn leaf_min(a: f64, b: f64) -> f64;
     pub safe fn leaf_max(a: f64, b: f64) -> f64;
     pub safe fn leaf_clamp(x: f64, lo: f64, hi: f64) -> f64;

@@ -4,15 +4,15 @@
 use super::{Allpass, Delay, Piano, StringWg};
 use crate::design::LoopDesign;
 
-pub fn contact_force(stiffness: f64, p: f64, eps_r: f64, c0: f64, c1: f64) -> f64 {
-    Piano::contact_force(stiffness, p, eps_r, c0, c1)
+pub fn contact_force(stiffness: f64, word: u32, eps_r: f64, c0: f64, c1: f64) -> f64 {
+    Piano::contact_force(stiffness, f64::from(word), eps_r, c0, c1)
 }
 
 /// Each c0 gives way to its force.
 #[inline(never)]
-pub fn force_sweep(stiffness: f64, p: f64, eps_r: f64, c1: f64, c0: &mut [f64]) {
+pub fn force_sweep(stiffness: f64, word: u32, eps_r: f64, c1: f64, c0: &mut [f64]) {
     for c0 in c0 {
-        *c0 = Piano::contact_force(stiffness, p, eps_r, *c0, c1);
+        *c0 = contact_force(stiffness, word, eps_r, *c0, c1);
     }
 }
 

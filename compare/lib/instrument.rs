@@ -2,6 +2,7 @@
 //! of what was read. It is written from the document and shares nothing with the proved reader.
 
 use crate::design::LoopDesign;
+use crate::power::exponent;
 use crate::{logged, model, published, timed};
 
 #[derive(Clone, Default)]
@@ -15,7 +16,7 @@ pub struct Common {
     pub yz: f64,
     pub rho: f64,
     pub ramp_s: f64,
-    /// The exponent in halves.
+    /// The felt's exponent, as a word: halves, or 256 and quarters.
     pub h: u32,
 }
 
@@ -113,7 +114,8 @@ fn floats_in<const N: usize>(bytes: &[u8], at: usize, ranges: &[(f64, f64); N]) 
 fn read_common(section: &[u8]) -> Result<Common, u8> {
     let [fs, z, mass, stiffness, eps, tau, yz, rho, ramp_s] = floats_in(section, 0, &COMMON_RANGES)?;
     let h = u32_at(section, 72);
-    (2..=10).contains(&h).then_some(Common { fs, z, mass, stiffness, eps, tau, yz, rho, ramp_s, h }).ok_or(4)
+    let good = (2..=10).contains(&h) || (256 + 4..=256 + 20).contains(&h);
+    good.then_some(Common { fs, z, mass, stiffness, eps, tau, yz, rho, ramp_s, h }).ok_or(4)
 }
 
 fn read_string(bytes: &[u8]) -> Result<LoopDesign, u8> {
@@ -179,11 +181,12 @@ pub fn chained(sections: &[Vec<u8>]) -> Vec<u8> {
     file
 }
 
-/// An instrument as one of the Rust's models takes it: each model has types of its own.
+/// An instrument as one of the Rust's models takes it: each model has types of its own. Its exponent is made of the word:
+/// the word itself, or for `powf` the number that it names.
 macro_rules! piano_of {
-    ($model:ident, $instrument:expr) => {{
+    ($model:ident, $instrument:expr, $exponent:expr) => {{
         let c = &$instrument.common;
-        let exponent = c.h as f64 / 2.0;
+        let exponent = $exponent(c.h);
         let hammer = $model::Hammer { mass: c.mass, stiffness: c.stiffness, exponent, eps: c.eps, tau: c.tau };
         let strings = |k: &Key| {
             let Key { key, has_damper, weight, damper_scale, strike_ratio, damper_ratio, strings } = k;
@@ -220,21 +223,21 @@ impl Instrument {
 
     /// The Rust's piano, in silence.
     pub fn piano(&self) -> model::Piano {
-        piano_of!(model, self)
+        piano_of!(model, self, f64::from)
     }
 
     /// The same without a count for each key.
     pub fn timed_piano(&self) -> timed::Piano {
-        piano_of!(timed, self)
+        piano_of!(timed, self, f64::from)
     }
 
     /// The same with its own powf.
     pub fn published_piano(&self) -> published::Piano {
-        piano_of!(published, self)
+        piano_of!(published, self, exponent)
     }
 
     /// The same that logs its contacts.
     pub fn logged_piano(&self) -> logged::Piano {
-        piano_of!(logged, self)
+        piano_of!(logged, self, f64::from)
     }
 }

@@ -4,6 +4,7 @@
 use crate::common::Random;
 use crate::design::LoopDesign;
 use crate::instrument::{chained, Common, Instrument, Key, COMMON_RANGES, KEY, KEY_RANGES, STRING, STRING_RANGES};
+use crate::power::{exponent, quarter_words};
 
 /// How large an instrument is.
 #[derive(Clone, Copy, PartialEq, Debug)]
@@ -24,14 +25,25 @@ fn chance(random: &mut Random, one_in: u64) -> bool {
     random.below(one_in) == 0
 }
 
+/// A felt's word: halves and quarters as often, and among the quarters the ones that no half is as often as the others.
+fn felt_word(random: &mut Random) -> u32 {
+    if chance(random, 2) {
+        return 2 + random.below(9) as u32;
+    }
+    let between = chance(random, 2);
+    let words: Vec<u32> = quarter_words().filter(|word| (word % 2 == 1) == between).collect();
+    pick(random, &words)
+}
+
 /// A felt and a string as a piano has them, the stiffness by the exponent, so that contacts last some samples.
 fn ordinary_common(random: &mut Random) -> Common {
-    let h = 2 + random.below(9) as u32;
+    let h = felt_word(random);
+    let p = exponent(h);
     Common {
         fs: pick(random, &[8_000.0, 22_050.0, 44_100.0, 48_000.0, 96_000.5, 352_800.0]),
         z: random.between(0.5, 10.0),
         mass: random.between(0.004, 0.02),
-        stiffness: if chance(random, 12) { 0.0 } else { 10f64.powf(3.5 + 0.75 * h as f64 + random.between(-1.0, 1.0)) },
+        stiffness: if chance(random, 12) { 0.0 } else { random.magnitude(2.5 + 1.5 * p, 4.5 + 1.5 * p) },
         eps: pick(random, &[0.0, 0.1, 0.3, 0.9]),
         tau: if chance(random, 4) { 0.0 } else { random.magnitude(-6.0, -2.0) },
         yz: random.magnitude(-4.0, -0.5),
@@ -204,7 +216,7 @@ fn outside(random: &mut Random, (least, most): (f64, f64)) -> f64 {
 
 fn spoil_common(random: &mut Random, common: &mut [u8]) {
     match random.below(10) as usize {
-        9 => put_u32(common, 72, pick(random, &[0, 1, 11, 256 + 21, u32::MAX])),
+        9 => put_u32(common, 72, pick(random, &[0, 1, 11, 255, 256 + 3, 256 + 21, 512 + 5, u32::MAX])),
         i => put_f64(common, 8 * i, outside(random, COMMON_RANGES[i])),
     }
 }

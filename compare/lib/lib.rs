@@ -9,6 +9,7 @@ pub mod design;
 pub mod gingerfile;
 pub mod events;
 pub mod exports;
+pub mod felts;
 pub mod instrument;
 pub mod instruments;
 pub mod power;

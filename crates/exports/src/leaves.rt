@@ -21,10 +21,10 @@ pub extern "C" fn leaf_root(x: f64) -> f64
 }
 
 #[no_mangle]
-pub extern "C" fn leaf_power(x: f64, h: u32) -> f64
-    ensures { λ r. ⌜ r ≡ powerOf x h ⌝ }
+pub extern "C" fn leaf_power(x: f64, word: u32) -> f64
+    ensures { λ r. ⌜ r ≡ powerOf x word ⌝ }
 {
-    power::power(x, h)
+    power::power(x, word)
 }
 
 #[no_mangle]

@@ -1,6 +1,7 @@
 // The felt hammer and the force of its contact with one string.
 use float::positive_part;
 use power::power;
+use power::quarters_of;
 ghost use mathlib.Core.Path.{_≡_};
 ghost use mathlib.Core.Bool.{true, cond};
 ghost use mathlib.Core.Logic.{_⊎_};
@@ -9,7 +10,7 @@ ghost use Rattle.float.specs.Float.{zero as +0};
 ghost use Rattle.hammer.specs.Contact.{feltForce, bisect, forceOf};
 ghost use Rattle.hammer.specs.Guess.{tooLow, lowByGuess, highByGuess, Moderate, AllModerate};
 
-// The exponent is the file's word: the power in half-steps.
+// The exponent is the file's word: halves, or 256 and quarters.
 #[repr(C)]
 pub struct Hammer {
     pub stiffness: f64,
@@ -77,14 +78,14 @@ fn bisect_by_guess(guess: f64, top: f64) -> Interval
     Interval { lo, hi }
 }
 
-// About the number below 1 whose power of h half-steps is y: a float's bits are about its logarithm.
-fn rough_root(y: f64, h: u32) -> f64 {
+// About the number below 1 whose power of so many quarters is y: a float's bits are about its logarithm.
+fn rough_root(y: f64, quarters: u32) -> f64 {
     let one: u64 = 0x3ff0_0000_0000_0000;
     if y > 0.0 {
         let bits = f64::to_bits(y);
         if bits < one {
-            if 1 < h {
-                let fall = 2 * (one - bits) / (h as u64);
+            if 0 < quarters {
+                let fall = 4 * (one - bits) / (quarters as u64);
                 if fall < one {
                     return f64::from_bits(one - fall);
                 }
@@ -97,12 +98,13 @@ fn rough_root(y: f64, h: u32) -> f64 {
 // Where the estimate starts. A felt that is soft beside the string: a Halley step from 0, where it pushes with f0. A
 // stiff one takes nearly the whole force c0 / c1; what is left of c0 is then about a root.
 fn first_estimate(hammer: Hammer, eps_r: f64, c0: f64, c1: f64, f0: f64, top: f64) -> f64 {
-    let p: f64 = 0.5 * (hammer.exponent as f64);
+    let quarters = quarters_of(hammer.exponent);
+    let p: f64 = 0.25 * (quarters as f64);
     let u: f64 = c1 / c0;
     let ke: f64 = hammer.stiffness * eps_r;
     let s: f64 = u * p * (f0 + ke);
     if s > 16.0 {
-        let left = rough_root((top + ke) / (f0 + ke), hammer.exponent);
+        let left = rough_root((top + ke) / (f0 + ke), quarters);
         return top - top * left;
     }
     f0 / (1.0 + s - 0.5 * s * (p - 1.0) * u * (f0 / (1.0 + s)))
@@ -111,7 +113,7 @@ fn first_estimate(hammer: Hammer, eps_r: f64, c0: f64, c1: f64, f0: f64, top: f6
 // About the force, by Newton's steps, until the next would be less than an interval that fifty halvings leave. Nothing is
 // said of the result, since the felt's own test decides on it.
 fn estimate_force(hammer: Hammer, eps_r: f64, c0: f64, c1: f64, f0: f64, top: f64) -> f64 {
-    let w: f64 = c1 * (0.5 * (hammer.exponent as f64));
+    let w: f64 = c1 * (0.25 * (quarters_of(hammer.exponent) as f64));
     let ke: f64 = hammer.stiffness * eps_r;
     let near: f64 = 0.000000000000001 * top / w;
     let mut m: f64 = first_estimate(hammer, eps_r, c0, c1, f0, top);

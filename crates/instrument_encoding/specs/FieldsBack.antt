@@ -19,6 +19,7 @@ use Rattle.instrument_fields.specs.Ranges.{ofWhole, hammerInRange, commonInRang
 use Rattle.instrument_fields.specs.Unused.{isPlusZero, isNoKey, isNoString, noKey, noString}
 use Rattle.instrument_encoding.specs.Encode.{commonBytes, stringBytes, fourBytes, headBytes}
 use Rattle.little_endian.specs.Floats.{Fit}
+use Rattle.instrument_encoding.specs.InRange.{exponent-small}
 use Rattle.instrument_encoding.specs.Typed.{FitCommon, FitKey, FitString}
 
 -- ---- each record from its bytes: the path from one record to the other goes field by field
@@ -57,7 +58,7 @@ key-back k r t = λ i. record {
 pub common-back : (c : Common) (r : List ℕ) → FitCommon c → commonInRange c ≡ true → commonOf (commonBytes c ++ r) ≡ c
 unfolding commonOf hammerOf damperOf commonBytes commonInRange hammerInRange f64At u64At u32At u16At leF64 le64 le32 le16
 common-back c r t k =
-    let steps = leb-true (c .hammer .exponent) 10 (holds _ (holds _ k 2) 5) in
+    let small = exponent-small (c .hammer .exponent) (holds _ (holds _ k 2) 4) in
     λ i. record {
       fs = f64-back (c .fs) [] (t .fs) i;
       z = f64-back (c .z) [] (t .z) i;

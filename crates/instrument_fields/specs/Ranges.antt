@@ -1,7 +1,7 @@
 -- Document 01, "Instrument file": the ranges of the fields; "Ends count unless said." A comparison with NaN is false, so that NaN is in no range, and an infinity lies past an end of
 -- each. −0 counts as 0. Definitions only: assumes nothing.
 use Prim.Native.Nat.{ℕ}
-use mathlib.Core.Bool.{Bool, false, _&&_}
+use mathlib.Core.Bool.{Bool, false, _&&_, _||_}
 use mathlib.Core.List.{[], _∷_}
 use lib.IntN.{pos, negsuc}
 use lib.Dec.{leb}
@@ -27,7 +27,11 @@ within low x high = le low x && le x high
 unfoldable pub strictlyBetween : Float → Float → Float → Bool
 strictlyBetween low x high = lt low x && lt x high
 
--- "mass (2^-20 to 1,000), stiffness (0 to 10^15), eps, tau (each 0 to 1); h, the exponent in halves, 2 to 10"
+-- "h, the exponent in halves, 2 to 10"; document 02, W5: "The word h may also be 256 + e, e from 4 to 20 quarters; other words fall under refusal 4"
+unfoldable pub exponentInRange : ℕ → Bool
+exponentInRange word = (leb 2 word && leb word 10) || (leb 260 word && leb word 276)
+
+-- "mass (2^-20 to 1,000), stiffness (0 to 10^15), eps, tau (each 0 to 1)", and the exponent
 unfoldable pub hammerInRange : Hammer → Bool
 hammerInRange h =
     every
@@ -35,8 +39,7 @@ hammerInRange h =
     ∷ within (ofWhole 0) (h .stiffness) (ofWhole 1000000000000000)
     ∷ within (ofWhole 0) (h .eps) (ofWhole 1)
     ∷ within (ofWhole 0) (h .tau) (ofWhole 1)
-    ∷ leb 2 (h .exponent)
-    ∷ leb (h .exponent) 10
+    ∷ exponentInRange (h .exponent)
     ∷ [])
 
 -- "fs (1,000 to 400,000), z (2^-20 to 1,000), yz (0 to 1), rho (0 to 1,000), ramp_s (0 to 100)", with the hammer's

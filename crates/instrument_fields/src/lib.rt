@@ -7,7 +7,7 @@ use little_endian::u16_at;
 use little_endian::u32_at;
 ghost use mathlib.Core.Path.{_≡_};
 ghost use Rattle.instrument_fields.specs.Fields.{hammerOf, commonOf, keyOf, loopOf};
-ghost use Rattle.instrument_fields.specs.Ranges.{within, strictlyBetween, hammerInRange, commonInRange, keyInRange, stringInRange};
+ghost use Rattle.instrument_fields.specs.Ranges.{within, strictlyBetween, exponentInRange, hammerInRange, commonInRange, keyInRange, stringInRange};
 ghost use Rattle.instrument_fields.specs.Unused.{isPlusZero, noHammer, noCommon, noKey, noString, isNoKey, isNoString};
 
 pub struct Damper {
@@ -134,6 +134,13 @@ fn is_between(low: f64, x: f64, high: f64) -> bool
 // 2^-20
 const LEAST: f64 = 0.00000095367431640625;
 
+// A word for halves, 2 to 10, or for quarters, 4 to 20 above 256.
+fn exponent_in_range(word: u32) -> bool
+    ensures { λ r. ⌜ r ≡ exponentInRange word ⌝ }
+{
+    ((2 <= word) & (word <= 10)) | ((260 <= word) & (word <= 276))
+}
+
 fn hammer_in_range(h: Hammer) -> bool
     ensures { λ r. ⌜ r ≡ hammerInRange h ⌝ }
 {
@@ -141,8 +148,7 @@ fn hammer_in_range(h: Hammer) -> bool
         & is_within(0.0, h.stiffness, 1000000000000000.0)
         & is_within(0.0, h.eps, 1.0)
         & is_within(0.0, h.tau, 1.0)
-        & (2 <= h.exponent)
-        & (h.exponent <= 10)
+        & exponent_in_range(h.exponent)
 }
 
 pub fn common_in_range(c: Common) -> bool

@@ -11,9 +11,9 @@ ghost use mathlib.Core.Path.{_≡_};
 ghost use Prim.Native.Nat.{_+_, _*_};
 ghost use lib.ListN.{length};
 
-// No stored answer has a larger h. The power calls itself once for two half-steps: an h out of a
-// damaged file is not to use up the stack.
-const LARGEST_H: u64 = 4096;
+// No stored answer has a larger exponent. The power calls itself once for two halves or four quarters: an
+// exponent out of a damaged file is not to use up the stack.
+const LARGEST_EXPONENT: u64 = 4096;
 
 pub enum Verdict {
     Same,
@@ -40,11 +40,11 @@ pub fn power(words: &[u64]) -> Verdict {
     if words.len() != 3 {
         return Verdict::Unreadable;
     }
-    let h = words[1];
-    if LARGEST_H < h {
+    let exponent = words[1];
+    if LARGEST_EXPONENT < exponent {
         return Verdict::Unreadable;
     }
-    judged(alike(power::power(float_of(words[0]), h as u32), words[2]))
+    judged(alike(power::power(float_of(words[0]), exponent as u32), words[2]))
 }
 
 pub fn min(words: &[u64]) -> Verdict {
@@ -89,13 +89,13 @@ pub fn contact_force(words: &[u64]) -> Verdict {
     if words.len() != 6 {
         return Verdict::Unreadable;
     }
-    let h = words[1];
-    if LARGEST_H < h {
+    let exponent = words[1];
+    if LARGEST_EXPONENT < exponent {
         return Verdict::Unreadable;
     }
     let hammer = Hammer {
         stiffness: float_of(words[0]),
-        exponent: h as u32,
+        exponent: exponent as u32,
         eps: 0.0,
         mass: 1.0,
         tau: 0.0,

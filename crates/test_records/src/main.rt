@@ -230,15 +230,30 @@ fn try_instruments(i: Instrument, s: Session) {
     try_calls(b"no key", records::with_keys(i, 0), s);
     try_calls(b"a rate of NaN", records::with_rate(i, 0.0 / 0.0), s);
     try_calls(
-        b"an exponent of 11 halves",
-        records::with_exponent(i, 11),
-        s,
-    );
-    try_calls(
         b"an unused key that is not zero",
         records::with_last_key(i, 9),
         s,
     );
+}
+
+fn try_exponent(i: Instrument, s: Session, word: u32) {
+    say(b"an exponent of ", word as u64);
+    try_calls(b"", records::with_exponent(i, word), s);
+}
+
+// The felt's exponent at and beyond the ends of its halves, 2 to 10, and of its quarters, 4 to 20 above 256.
+fn try_exponents(i: Instrument, s: Session) {
+    try_exponent(i, s, 1);
+    try_exponent(i, s, 2);
+    try_exponent(i, s, 10);
+    try_exponent(i, s, 11);
+    try_exponent(i, s, 255);
+    try_exponent(i, s, 259);
+    try_exponent(i, s, 260);
+    try_exponent(i, s, 263);
+    try_exponent(i, s, 276);
+    try_exponent(i, s, 277);
+    try_exponent(i, s, 4294967295);
 }
 
 // Right records: the floats of the state may hold anything, and what lies past the counts decides nothing.
@@ -297,4 +312,5 @@ fn main() {
     try_pianos(i, s);
     try_cues(i, s);
     try_instruments(i, s);
+    try_exponents(i, s);
 }

@@ -240,9 +240,9 @@ pub fn with_rate(instrument: Instrument, fs: f64) -> Instrument {
     i
 }
 
-pub fn with_exponent(instrument: Instrument, h: u32) -> Instrument {
+pub fn with_exponent(instrument: Instrument, word: u32) -> Instrument {
     let mut i = instrument;
-    i.common.hammer.exponent = h;
+    i.common.hammer.exponent = word;
     i
 }
 

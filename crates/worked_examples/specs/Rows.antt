@@ -1,4 +1,5 @@
--- Document 01, "Bench rows": the rows marked § in one table, in its order, with one proof over the definitions; the session's rows hold for every instrument. Assumes nothing.
+-- Document 01, "Bench rows": the rows marked § in one table, in its order, and a row for W5's quarters, with one proof over the definitions; the session's rows hold for every
+-- instrument. Assumes nothing.
 use Prim.Native.Nat.{ℕ, _-_, _^_}
 use mathlib.Core.Path.{_≡_, refl}
 use mathlib.Core.List.{List, [], _∷_, map}
@@ -70,6 +71,8 @@ rows i =
     values (bits (map (powerOf (whole 4)) (2 ∷ 3 ∷ 4 ∷ 5 ∷ []))) (bits (map whole (4 ∷ 8 ∷ 16 ∷ 32 ∷ [])))
     -- "0.25, h = 3: 0.125."
     ∷ values (bits (powerOf (over2^ 1 2) 3 ∷ [])) (bits (over2^ 1 3 ∷ []))
+    -- document 02, W5: 16 to the power of 4, 5, 6, 7, 8 and 9 quarters
+    ∷ values (bits (map (powerOf (whole 16)) (260 ∷ 261 ∷ 262 ∷ 263 ∷ 264 ∷ 265 ∷ []))) (bits (map whole (16 ∷ 32 ∷ 64 ∷ 128 ∷ 256 ∷ 512 ∷ [])))
     -- "root(2) has bits 3FF6A09E667F3BCD hexadecimal."
     ∷ values (bits (rootOf (whole 2) ∷ [])) (0x3FF6_A09E_667F_3BCD ∷ [])
     -- "Allpass a = 0.5 on 1, 0, 0: 0.5, 0.75, −0.375."
@@ -97,7 +100,7 @@ rows i =
 pub rows-hold : (i : Instrument) → Hold (rows i)
 unfolding rows does count upTo greatest placed mayPrecede soundVelocity
 rows-hold i =
-    refl and refl and refl and refl and refl and refl and refl and refl
+    refl and refl and refl and refl and refl and refl and refl and refl and refl
     and begin i _ _
     (then i (cued i) (insertAt i 120) _ _
     (then-go i (record { score = insertedAt 120 ∷ []; t = 100; cues = 100 ∷ [] }) 130 _ _ refl refl

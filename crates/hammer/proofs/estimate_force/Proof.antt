@@ -11,6 +11,9 @@ Inv-loop hammer eps-r c0 c1 f0 top w ke near m₀ i₀ m i = i ≤ 10
 abbrev μ-loop : tie.MeasureT-loop
 μ-loop hammer eps-r c0 c1 f0 top w ke near m₀ i₀ m i = 10 - i
 
+quarters-of-requires : tie.Need-quarters-of-requires Inv-loop μ-loop
+quarters-of-requires c κs = search needs
+
 int-to-float-w : tie.Need-int-to-float-w Inv-loop μ-loop
 int-to-float-w c = tt
 
@@ -47,6 +50,7 @@ estimate-force-spec =
     (tie.spec
     Inv-loop
     μ-loop
+    quarters-of-requires
     int-to-float-w
     first-estimate-requires
     loop-holds

@@ -18,6 +18,9 @@ is-within-requires-3 c κs = search needs
 is-within-requires-4 : tie.Need-is-within-requires-4
 is-within-requires-4 c κs = search needs
 
+exponent-in-range-requires : tie.Need-exponent-in-range-requires
+exponent-in-range-requires c κs = search needs
+
 returns : tie.Need-returns
 unfolding hammerInRange every everyAfter ofBits ofInt
 returns c = cc
@@ -30,4 +33,5 @@ hammer-in-range-spec =
     is-within-requires-2
     is-within-requires-3
     is-within-requires-4
+    exponent-in-range-requires
     returns)
