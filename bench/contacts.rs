@@ -9,6 +9,7 @@ use comparison::exports::leaf_force_trials;
 use comparison::instrument::Instrument;
 use comparison::instruments::{self, pick, Size};
 use comparison::logged::Event;
+use comparison::power::{power, words};
 
 /// The calls of each way to a force: 0 no force, 1 the first guess, 2 the second, 3 neither.
 #[derive(Default)]
@@ -17,7 +18,7 @@ struct Ways([u64; 4]);
 impl Ways {
     fn count(&mut self) {
         for [stiffness, p, eps_r, c0, c1] in contacts::taken() {
-            let way = leaf_force_trials(stiffness, (2.0 * p) as u32, eps_r, c0, c1);
+            let way = leaf_force_trials(stiffness, p as u32, eps_r, c0, c1);
             self.0[way as usize] += 1;
         }
     }
@@ -51,11 +52,11 @@ struct Kind {
 
 const KINDS: [Kind; 4] = [
     Kind {
-        name: "the benches' grand, h = 2 to 10",
-        renders: 9,
+        name: "the benches' grand, each exponent",
+        renders: 26,
         samples: 20_000,
         held: true,
-        instrument: |_, i| grand::instrument(2 + i as u32, 1, 3, 0),
+        instrument: |_, i| grand::instrument(words().nth(i).unwrap(), 1, 3, 0),
     },
     Kind {
         name: "ordinary instruments",
@@ -97,16 +98,17 @@ fn report(what: &str, ways: &Ways, held: bool) -> bool {
 
 /// Arguments of every size that a piano may have, the memory 0, below the power, or of any size.
 fn drawn(random: &mut Random) -> Ways {
+    let words: Vec<u32> = words().collect();
     for _ in 0..1_000_000 {
-        let p = 0.5 * (2 + random.below(9)) as f64;
+        let word = pick(random, &words);
         let (stiffness, c0, c1) =
             (random.magnitude(-3.0, 15.0), random.magnitude(-6.0, 1.0), random.magnitude(-12.0, 1.0));
         let eps_r = match random.below(3) {
             0 => 0.0,
-            1 => c0.powf(p) * random.between(0.0, 1.0),
+            1 => power(c0, word) * random.between(0.0, 1.0),
             _ => random.magnitude(-6.0, 1.0),
         };
-        contacts::log(stiffness, p, eps_r, c0, c1);
+        contacts::log(stiffness, f64::from(word), eps_r, c0, c1);
     }
     let mut ways = Ways::default();
     ways.count();

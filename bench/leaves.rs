@@ -7,6 +7,7 @@ use comparison::common::{alike, all_alike, Random};
 use comparison::design::LoopDesign;
 use comparison::exports;
 use comparison::model::inside::{self, Filters};
+use comparison::power::{exponent, QUARTERS};
 use measure::{measure, report, Measured};
 use std::hint::black_box;
 
@@ -88,21 +89,33 @@ const C1: f64 = 1.0 / 48_000.0 / (2.0 * 7.5);
 /// How many inputs are drawn: the processor learns a few hundred by heart.
 const DRAWN: usize = 4_096;
 
-fn force_row(what: &str, target: f64, stiffness: f64, h: u32, c1: f64, inputs: Vec<f64>) -> Measured {
+/// The felt of a row: halves or quarters, as its word has it.
+fn felt(word: u32) -> String {
+    match word.checked_sub(QUARTERS) {
+        Some(e) => format!("e = {e}"),
+        None => format!("h = {word}"),
+    }
+}
+
+fn force_row(what: &str, target: f64, stiffness: f64, word: u32, c1: f64, inputs: Vec<f64>) -> Measured {
     Block::new(inputs).sweep(
-        what,
+        &format!("contact_force, {}{what}", felt(word)),
         Some(target),
-        |b| inside::force_sweep(stiffness, h as f64 / 2.0, 0.0, c1, &mut b.values),
-        |b| exports::force_sweep(stiffness, h, 0.0, c1, &mut b.values),
+        |b| inside::force_sweep(stiffness, word, 0.0, c1, &mut b.values),
+        |b| exports::force_sweep(stiffness, word, 0.0, c1, &mut b.values),
     )
 }
 
+/// Quarters that take the root of a root: 7 takes the root too.
+const ROOTS_OF_ROOTS: [u32; 3] = [QUARTERS + 5, QUARTERS + 7, QUARTERS + 9];
+
 /// A hammer in contact with a string.
 fn forces(rows: &mut Vec<Measured>, random: &mut Random) {
-    for h in 2..=10 {
+    let targets = (2..=10).map(|h| (h, 0.6)).chain(ROOTS_OF_ROOTS.map(|e| (e, 1.0)));
+    for (word, target) in targets {
         let inputs = (0..DRAWN).map(|_| random.magnitude(-5.0, -3.0)).collect();
-        let stiffness = 10f64.powf(4.0 + 0.75 * h as f64);
-        rows.push(force_row(&format!("contact_force, h = {h}"), 0.6, stiffness, h, C1, inputs));
+        let stiffness = 10f64.powf(4.0 + 1.5 * exponent(word));
+        rows.push(force_row("", target, stiffness, word, C1, inputs));
     }
 }
 
@@ -110,12 +123,12 @@ fn forces(rows: &mut Vec<Measured>, random: &mut Random) {
 /// below its last digit. Both guesses miss there, and the felt's own halvings follow.
 fn missed_forces(rows: &mut Vec<Measured>, random: &mut Random) {
     let (stiffness, c1) = (1e12, 1.0);
-    for h in [3, 4, 9, 10] {
-        let misses = |c0: &f64| exports::leaf_force_trials(stiffness, h, 0.0, *c0, c1) == 3;
+    for word in [3, 4, 9, 10, QUARTERS + 7] {
+        let misses = |c0: &f64| exports::leaf_force_trials(stiffness, word, 0.0, *c0, c1) == 3;
         let drawn = (0..100 * DRAWN).map(|_| random.magnitude(15.0, 25.0));
         let inputs: Vec<f64> = drawn.filter(misses).take(DRAWN).collect();
-        assert!(inputs.len() == DRAWN, "too few arguments that miss both guesses for h = {h}");
-        rows.push(force_row(&format!("contact_force, h = {h}, both guesses miss"), 2.3, stiffness, h, c1, inputs));
+        assert!(inputs.len() == DRAWN, "too few arguments that miss both guesses for {}", felt(word));
+        rows.push(force_row(", both guesses miss", 2.3, stiffness, word, c1, inputs));
     }
 }
 
