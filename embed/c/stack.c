@@ -48,7 +48,8 @@ static void put_instrument(uint32_t keys, uint8_t strings, uint16_t n, uint16_t 
 {
     const double common[9] = {48000, 7.5, 0.009, 1e7, 0.1, 2e-5, 0.0012, 1, 0.02};
     const double key[4] = {0.3, 1, 0.12, 0.3}, string[5] = {3, 0.1, -0.6, 0.998, 0.1};
-    const uint32_t sections = keys + 1, h = 5, first = 4 + 8 * sections, size = 36 + 44 * strings;
+    /* 19 quarters: no other exponent has as deep a power with both roots */
+    const uint32_t sections = keys + 1, h = 256 + 19, first = 4 + 8 * sections, size = 36 + 44 * strings;
     lent->length = 0;
     lent->key_count = keys;
     put(&sections, 4);

@@ -54,6 +54,45 @@ fn files_are_refused_by_number() {
     }
 }
 
+/// The piano, which has 5 halves behind the common section's floats, with another exponent.
+fn with_exponent(word: u32) -> Vec<u8> {
+    let at = 76 + 72;
+    assert_eq!(PIANO[at..at + 4], 5u32.to_le_bytes());
+    [&PIANO[..at], &word.to_le_bytes(), &PIANO[at + 4..]].concat()
+}
+
+/// What a strike of a piano sounds like, a cue and a step back to it among it, and the session's words behind it.
+fn struck(file: &[u8]) -> (Vec<Played>, Vec<u64>) {
+    let mut console = Console::open(file).unwrap();
+    console.insert(0, STRIKE).unwrap();
+    let mut played = vec![play(&mut console, 300).unwrap()];
+    console.cue().unwrap();
+    played.push(play(&mut console, 700).unwrap());
+    console.go(300).unwrap();
+    played.push(play(&mut console, 700).unwrap());
+    assert_eq!(played[1], played[2]);
+    (played, console.words().to_vec())
+}
+
+#[test]
+fn ten_quarters_are_five_halves() {
+    let halves = struck(PIANO);
+    assert!(halves.0[0].contacts > 0);
+    assert_eq!(struck(&with_exponent(256 + 10)), halves);
+    for quarters in (4..=20).filter(|quarters| *quarters != 10) {
+        assert_ne!(struck(&with_exponent(256 + quarters)).0[0], halves.0[0], "{quarters} quarters");
+    }
+}
+
+#[test]
+fn exponents_are_halves_from_2_to_10_and_quarters_from_4_to_20() {
+    for word in (0..=600).chain([65_536 + 5, 65_536 + 263, u32::MAX]) {
+        let taken = (2..=10).contains(&word) || (260..=276).contains(&word);
+        let opened = Console::open(&with_exponent(word)).map(|_| ()).map_err(Refusal::number);
+        assert_eq!(opened, if taken { Ok(()) } else { Err(4) }, "the word {word}");
+    }
+}
+
 #[test]
 fn calls_are_refused_by_number_and_change_nothing() {
     let mut console = rehearsed();
