@@ -9,7 +9,7 @@ use comparison::exports::leaf_force_trials;
 use comparison::instrument::Instrument;
 use comparison::instruments::{self, pick, Size};
 use comparison::logged::Event;
-use comparison::power::{power, words};
+use comparison::power::{felt_words, power};
 
 /// The calls of each way to a force: 0 no force, 1 the first guess, 2 the second, 3 neither.
 #[derive(Default)]
@@ -56,7 +56,7 @@ const KINDS: [Kind; 4] = [
         renders: 26,
         samples: 20_000,
         held: true,
-        instrument: |_, i| grand::instrument(words().nth(i).unwrap(), 1, 3, 0),
+        instrument: |_, i| grand::instrument(felt_words().nth(i).unwrap(), 1, 3, 0),
     },
     Kind {
         name: "ordinary instruments",
@@ -98,7 +98,7 @@ fn report(what: &str, ways: &Ways, held: bool) -> bool {
 
 /// Arguments of every size that a piano may have, the memory 0, below the power, or of any size.
 fn drawn(random: &mut Random) -> Ways {
-    let words: Vec<u32> = words().collect();
+    let words: Vec<u32> = felt_words().collect();
     for _ in 0..1_000_000 {
         let word = pick(random, &words);
         let (stiffness, c0, c1) =

@@ -4,7 +4,7 @@
 use comparison::design::LoopDesign;
 use comparison::instrument::{Common, Instrument, Key};
 use comparison::model::Event;
-use comparison::power::exponent;
+use comparison::power::exponent_of;
 
 /// The first key.
 pub const KEY: u8 = 40;
@@ -19,7 +19,7 @@ pub fn instrument(h: u32, keys: usize, strings: usize, ap_count: usize) -> Instr
         fs: 48_000.0,
         z: 7.5,
         mass: 0.009,
-        stiffness: 10f64.powf(4.0 + 1.5 * exponent(h)),
+        stiffness: 10f64.powf(4.0 + 1.5 * exponent_of(h)),
         eps: 0.1,
         tau: 2e-5,
         yz: 0.001_2,

@@ -7,7 +7,7 @@ use comparison::common::{alike, all_alike, Random};
 use comparison::design::LoopDesign;
 use comparison::exports;
 use comparison::model::inside::{self, Filters};
-use comparison::power::{exponent, QUARTERS};
+use comparison::power::{exponent_of, QUARTERS};
 use measure::{measure, report, Measured};
 use std::hint::black_box;
 
@@ -89,8 +89,8 @@ const C1: f64 = 1.0 / 48_000.0 / (2.0 * 7.5);
 /// How many inputs are drawn: the processor learns a few hundred by heart.
 const DRAWN: usize = 4_096;
 
-/// The felt of a row: halves or quarters, as its word has it.
-fn felt(word: u32) -> String {
+/// The exponent in a row's name: halves h or quarters e, as its word has it.
+fn exponent_name(word: u32) -> String {
     match word.checked_sub(QUARTERS) {
         Some(e) => format!("e = {e}"),
         None => format!("h = {word}"),
@@ -99,7 +99,7 @@ fn felt(word: u32) -> String {
 
 fn force_row(what: &str, target: f64, stiffness: f64, word: u32, c1: f64, inputs: Vec<f64>) -> Measured {
     Block::new(inputs).sweep(
-        &format!("contact_force, {}{what}", felt(word)),
+        &format!("contact_force, {}{what}", exponent_name(word)),
         Some(target),
         |b| inside::force_sweep(stiffness, word, 0.0, c1, &mut b.values),
         |b| exports::force_sweep(stiffness, word, 0.0, c1, &mut b.values),
@@ -114,7 +114,7 @@ fn forces(rows: &mut Vec<Measured>, random: &mut Random) {
     let targets = (2..=10).map(|h| (h, 0.6)).chain(ROOTS_OF_ROOTS.map(|e| (e, 1.0)));
     for (word, target) in targets {
         let inputs = (0..DRAWN).map(|_| random.magnitude(-5.0, -3.0)).collect();
-        let stiffness = 10f64.powf(4.0 + 1.5 * exponent(word));
+        let stiffness = 10f64.powf(4.0 + 1.5 * exponent_of(word));
         rows.push(force_row("", target, stiffness, word, C1, inputs));
     }
 }
@@ -127,7 +127,7 @@ fn missed_forces(rows: &mut Vec<Measured>, random: &mut Random) {
         let misses = |c0: &f64| exports::leaf_force_trials(stiffness, word, 0.0, *c0, c1) == 3;
         let drawn = (0..100 * DRAWN).map(|_| random.magnitude(15.0, 25.0));
         let inputs: Vec<f64> = drawn.filter(misses).take(DRAWN).collect();
-        assert!(inputs.len() == DRAWN, "too few arguments that miss both guesses for {}", felt(word));
+        assert!(inputs.len() == DRAWN, "too few arguments that miss both guesses for {}", exponent_name(word));
         rows.push(force_row(", both guesses miss", 2.3, stiffness, word, c1, inputs));
     }
 }

@@ -7,7 +7,7 @@ mod writer;
 use comparison::design::LoopDesign;
 use comparison::exports::Record;
 use comparison::instrument::{chained, read, Common, Instrument, Key, COMMON_RANGES, KEY_RANGES, STRING_RANGES};
-use comparison::power::words;
+use comparison::power::felt_words;
 use std::collections::BTreeMap;
 use std::process::exit;
 use writer::{answer, file_of, Writings};
@@ -109,7 +109,7 @@ fn record(rng: &mut Rng, counts: &[u64]) -> Record {
     r.numbers[0] = counts.len() as u64;
     r.numbers[1] = counts.iter().sum();
     // two words in three are of quarters
-    let words: Vec<u32> = words().collect();
+    let words: Vec<u32> = felt_words().collect();
     r.numbers[2] = words[rng.below(words.len())] as u64;
     for k in 0..9 {
         r.floats[k] = rng.within(COMMON_RANGES[k]);

@@ -5,7 +5,7 @@ use comparison::common::{alike, all_alike, edges, word, Random, Tally};
 use comparison::design::LoopDesign;
 use comparison::exports::{self, *};
 use comparison::model::inside::{self, Filters};
-use comparison::power::{power, words, QUARTERS};
+use comparison::power::{felt_words, power, QUARTERS};
 
 // ---- root
 
@@ -234,7 +234,7 @@ fn ordinary(random: &mut Random, exponent: u32) -> Contact {
 fn forces(stride: u64) -> Tally {
     let mut tally = Tally::new("contact_force", stride);
     let mut random = Random::new(9);
-    for exponent in words() {
+    for exponent in felt_words() {
         for turn in 0..8_000 {
             let mut c = ordinary(&mut random, exponent);
             match turn % 8 {

@@ -2,7 +2,7 @@
 //! of what was read. It is written from the document and shares nothing with the proved reader.
 
 use crate::design::LoopDesign;
-use crate::power::exponent;
+use crate::power::exponent_of;
 use crate::{logged, model, published, timed};
 
 #[derive(Clone, Default)]
@@ -233,7 +233,7 @@ impl Instrument {
 
     /// The same with its own powf.
     pub fn published_piano(&self) -> published::Piano {
-        piano_of!(published, self, exponent)
+        piano_of!(published, self, exponent_of)
     }
 
     /// The same that logs its contacts.

@@ -4,7 +4,7 @@
 use crate::common::Random;
 use crate::design::LoopDesign;
 use crate::instrument::{chained, Common, Instrument, Key, COMMON_RANGES, KEY, KEY_RANGES, STRING, STRING_RANGES};
-use crate::power::{exponent, quarter_words};
+use crate::power::{exponent_of, quarter_words};
 
 /// How large an instrument is.
 #[derive(Clone, Copy, PartialEq, Debug)]
@@ -25,7 +25,7 @@ fn chance(random: &mut Random, one_in: u64) -> bool {
     random.below(one_in) == 0
 }
 
-/// A felt's word: halves and quarters as often, and among the quarters the ones that no half is as often as the others.
+/// A felt's exponent as a word: one in two counts quarters, and of those one in two is no number of halves.
 fn felt_word(random: &mut Random) -> u32 {
     if chance(random, 2) {
         return 2 + random.below(9) as u32;
@@ -38,7 +38,7 @@ fn felt_word(random: &mut Random) -> u32 {
 /// A felt and a string as a piano has them, the stiffness by the exponent, so that contacts last some samples.
 fn ordinary_common(random: &mut Random) -> Common {
     let h = felt_word(random);
-    let p = exponent(h);
+    let p = exponent_of(h);
     Common {
         fs: pick(random, &[8_000.0, 22_050.0, 44_100.0, 48_000.0, 96_000.5, 352_800.0]),
         z: random.between(0.5, 10.0),

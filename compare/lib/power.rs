@@ -16,7 +16,7 @@ impl PowerOfWord for f64 {
 pub const QUARTERS: u32 = 256;
 
 /// The words of instruments: halves from 2 to 10, quarters from 4 to 20.
-pub fn words() -> impl Iterator<Item = u32> {
+pub fn felt_words() -> impl Iterator<Item = u32> {
     (2..=10).chain(quarter_words())
 }
 
@@ -29,7 +29,7 @@ pub fn is_in_quarters(word: u32) -> bool {
 }
 
 /// The exponent that a word names, as `powf` takes it.
-pub fn exponent(word: u32) -> f64 {
+pub fn exponent_of(word: u32) -> f64 {
     if is_in_quarters(word) {
         (word - QUARTERS) as f64 / 4.0
     } else {
