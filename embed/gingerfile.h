@@ -12,7 +12,7 @@
             a thread, or around the calls: _mm_setcsr(0x1f80) of <xmmintrin.h>; or one by one fesetround(FE_TONEAREST),
             _MM_SET_FLUSH_ZERO_MODE(_MM_FLUSH_ZERO_OFF) and _MM_SET_DENORMALS_ZERO_MODE(_MM_DENORMALS_ZERO_OFF).
    Stack    GINGERFILE_STACK bytes below the frame that a call is made in: the most that was measured, rounded up to whole pages.
-            Measured were read 17,992, open 22,856, adjust 25,992, energies 40,712, remove 43,528, play 43,960, go 44,280,
+            Measured were read 17,992, open 22,856, adjust 25,928, energies 40,648, remove 43,528, play 43,976, go 44,296,
             cue 46,536, insert 49,480, decimate 88. embed/c/stack.c measures them, and makes each call with exactly the promised
             stack.
    Threads  any number of them may make calls at the same time, each on its own words, work, scratch, output and trace; the

@@ -62,7 +62,7 @@ fn with_exponent(word: u32) -> Vec<u8> {
 }
 
 /// What a strike of a piano sounds like, a cue and a step back to it among it, and the session's words behind it.
-fn struck(file: &[u8]) -> (Vec<Played>, Vec<u64>) {
+fn strike_of(file: &[u8]) -> (Vec<Played>, Vec<u64>) {
     let mut console = Console::open(file).unwrap();
     console.insert(0, STRIKE).unwrap();
     let mut played = vec![play(&mut console, 300).unwrap()];
@@ -76,11 +76,11 @@ fn struck(file: &[u8]) -> (Vec<Played>, Vec<u64>) {
 
 #[test]
 fn ten_quarters_are_five_halves() {
-    let halves = struck(PIANO);
+    let halves = strike_of(PIANO);
     assert!(halves.0[0].contacts > 0);
-    assert_eq!(struck(&with_exponent(256 + 10)), halves);
+    assert_eq!(strike_of(&with_exponent(256 + 10)), halves);
     for quarters in (4..=20).filter(|quarters| *quarters != 10) {
-        assert_ne!(struck(&with_exponent(256 + quarters)).0[0], halves.0[0], "{quarters} quarters");
+        assert_ne!(strike_of(&with_exponent(256 + quarters)).0[0], halves.0[0], "{quarters} quarters");
     }
 }
 

@@ -334,7 +334,7 @@ mul-is f (fin false m e) (inf t) p q = absurd q
 mul-is f (fin false m e) (fin true n d) p q = absurd q
 mul-is f (fin false m e) (fin false n d) p q = refl
 
-pub mul-finite-mono : (f : Format) (x x' y y' : Float)
+mul-finite-mono : (f : Format) (x x' y y' : Float)
     → T (finiteNonneg x) → T (finiteNonneg x') → T (finiteNonneg y) → T (finiteNonneg y')
     → T (le x x') → T (le y y') → T (le (mul f x y) (mul f x' y'))
 mul-finite-mono f x x' y y' p p' q q' h k =
@@ -363,7 +363,7 @@ inf-times f (fin true m e) p = absurd p
 inf-times f (fin false zero e) p = absurd (lt-irrefl 0 (ltb→lt 0 0 p))
 inf-times f (fin false (suc m) e) p = ap (λ (b : Bool). cond b nan (inf false)) (eqb·suc-zero m)
 
-pub mul-finite-nonneg : (f : Format) (x y : Float) → T (finiteNonneg x) → T (finiteNonneg y) → T (nonneg (mul f x y))
+mul-finite-nonneg : (f : Format) (x y : Float) → T (finiteNonneg x) → T (finiteNonneg y) → T (nonneg (mul f x y))
 mul-finite-nonneg f x y p q =
     subst (λ (z : Float). T (nonneg z)) (sym (mul-is f x y p q)) (round-nonneg f (num x * num y) (den x * den y))
 

@@ -1,6 +1,6 @@
 -- Document 01, "Instrument file": the ranges of the fields; "Ends count unless said." A comparison with NaN is false, so that NaN is in no range, and an infinity lies past an end of
 -- each. −0 counts as 0. Definitions only: assumes nothing.
-use Prim.Native.Nat.{ℕ}
+use Prim.Native.Nat.{ℕ, _+_}
 use mathlib.Core.Bool.{Bool, false, _&&_, _||_}
 use mathlib.Core.List.{[], _∷_}
 use lib.IntN.{pos, negsuc}
@@ -29,7 +29,7 @@ strictlyBetween low x high = lt low x && lt x high
 
 -- "h, the exponent in halves, 2 to 10"; document 02, W5: "The word h may also be 256 + e, e from 4 to 20 quarters; other words fall under refusal 4"
 unfoldable pub exponentInRange : ℕ → Bool
-exponentInRange word = (leb 2 word && leb word 10) || (leb 260 word && leb word 276)
+exponentInRange word = (leb 2 word && leb word 10) || (leb (256 + 4) word && leb word (256 + 20))
 
 -- "mass (2^-20 to 1,000), stiffness (0 to 10^15), eps, tau (each 0 to 1)", and the exponent
 unfoldable pub hammerInRange : Hammer → Bool

@@ -22,9 +22,9 @@ halves-are x (suc (suc (suc (suc h)))) =
     ap (λ (y : Float). mul binary64 y x) (halves-are x (suc (suc h)) ∙ ap (quartersAbove x) four) ∙ ap (quartersAbove x) eight
 
 -- whatever the word counts in
-pub above-is : (x : Float) (word : ℕ) → powerAbove x word ≡ quartersAbove x (quartersOf word)
+pub by-quarters : (x : Float) (word : ℕ) → powerAbove x word ≡ quartersAbove x (quartersOf word)
 unfolding powerAbove quartersOf
-above-is x word = go (ltb word 256)
+by-quarters x word = go (ltb word 256)
   where
     go : (b : Bool) → cond b (halvesAbove x word) (quartersAbove x (word - 256)) ≡ quartersAbove x (cond b (2 * word) (word - 256))
     go true = halves-are x word

@@ -10,7 +10,7 @@ use Rattle.float.specs.Order.{nonneg, finiteNonneg, nought, zero-is, finite-non
 use Rattle.root.specs.Root.{rootOf}
 use Rattle.root.proofs.Monotone.{root-fits, root-positive, root-mono}
 use Rattle.power.specs.Power.{quartersAbove, powerOf, quartersOf}
-use Rattle.power.specs.Laws.{above-is}
+use Rattle.power.specs.Laws.{by-quarters}
 
 -- ---- a value above 0, with its root and the root's root above 0 too
 
@@ -88,7 +88,7 @@ not-nan (fin b m e) s = refl
 -- by what the test says of x
 power-by : (x : Float) (word : ℕ) (b : Bool) → T (finiteNonneg x) → lt nought x ≡ b → powerOf x word ≡ cond b (quartersAbove x (quartersOf word)) nought
 unfolding powerOf
-power-by x word true s t = rw (zero-is, t) (above-is x word)
+power-by x word true s t = rw (zero-is, t) (by-quarters x word)
 power-by x word false s t = rw (zero-is, t, not-nan x s)
 
 pub power-nonneg : (x : Float) (word : ℕ) → T (fits binary64 x) → T (finiteNonneg x) → T (nonneg (powerOf x word))
