@@ -1,5 +1,5 @@
--- Halves h and quarters 2h agree on every x, since two steps of the halves' recursion are one of the quarters'. So every word names a count of quarters, and a law of the power need
--- only be proved of those. Assumes nothing.
+-- Halves h and quarters 2h agree on every x, since each step of two halves is one of four quarters: both multiply by x. So every word names a count of quarters, and a law of the
+-- power need only be proved of those. Assumes nothing.
 use mathlib.Core.Path.{_≡_, refl, ap, _∙_}
 use Prim.Native.Nat.{ℕ, zero, suc, _+_, _-_, _*_, _<_}
 use native.Mathlib.Omega.{arith}
