@@ -1,21 +1,21 @@
--- The order of the values that are not negative, infinity included: rounding keeps a sign, a product grows with each factor, and `le` and `lt` are opposite tests.
+-- The order of the values that are not negative, infinity included: rounding keeps a sign, a product grows with each factor, a quotient with what is divided, and `le` and `lt` are opposite tests.
 -- A finite value is the fraction `num` / `den`, so that each law is one of whole numbers, carried over by the library's `round-mono`. Assumes nothing.
 use mathlib.Core.Path.{_≡_, refl, sym, ap, _∙_, subst}
 use mathlib.Core.Logic.{_⊎_, inl, inr}
 use Prim.Native.Nat.{ℕ, zero, suc, _+_, _*_, _^_, _≤_, _<_, zero-le}
-use native.Mathlib.Nat.{le-trans, le-of-eq, le-of-lt, lt-of-lt-of-le, lt-of-le-of-lt, lt-irrefl, zero-mul}
+use native.Mathlib.Nat.{le-trans, le-of-eq, le-of-lt, lt-of-lt-of-le, lt-of-le-of-lt, lt-irrefl, zero-mul, suc-ne-zero}
 use native.Mathlib.Nat.{mul-one, one-mul, mul-right-comm, mul-le-mul-right, mul-le-mul, mul-lt-mul-of-pos-right, lt-of-mul-lt-mul-right, mul-pos}
-use native.Mathlib.Nat.{mul-mul-mul-comm}
+use native.Mathlib.Nat.{mul-comm, mul-assoc, mul-left-comm, mul-mul-mul-comm}
 use native.Mathlib.Omega.{arith}
 use mathlib.Core.Bool.{Bool, true, false, not, _&&_, _||_, cond, false≢true}
 use lib.IntN.{ℤ, pos}
 use lib.Dec.{T, ltb, eqb, eqb→eq, ltb→lt, lt→ltb, nltb→le, eqb·suc-zero}
-use lib.Ieee.{Float, nan, inf, fin, Format, prec, emax, low, up, down, odd, units, round, neg, mul, lt, le, ofBits}
+use lib.Ieee.{Float, nan, inf, fin, Format, prec, emax, low, up, down, odd, units, round, neg, mul, div, lt, le, below, level, ofBits}
 use lib.Ieee.Bits.{is-true}
 use lib.Ieee.Fits.{and-l, round-is}
 use lib.Ieee.Exact.{HasValue}
 use lib.Ieee.Order.{kept, drop, le-of-values, round-mono}
-use lib.Ieee.Positive.{num, den, den-pos, first-pos, positive, through}
+use lib.Ieee.Positive.{num, den, den-pos, first-pos, positive, value-pos, through}
 use Rattle.float.specs.Float.{zero as +0}
 
 -- ---- kinds
@@ -82,6 +82,13 @@ pub round-nonneg : (f : Format) (a c : ℕ) → T (nonneg (round f false a c))
 round-nonneg f a c =
     subst (λ (z : Float). T (nonneg z)) (sym (round-is f false a c))
     (sign-units f (kept (prec f) (a * 2 ^ low f) c) (drop (prec f) (a * 2 ^ low f) c))
+
+-- two rounded fractions are in the order of the fractions
+pub rounded-le : (f : Format) (x y : Float) (a c b d : ℕ) → x ≡ round f false a c → y ≡ round f false b d → 0 < c → 0 < d
+    → a * d ≤ b * c → T (le x y)
+rounded-le f x y a c b d p q hc hd h =
+    subst (λ (z : Float). T (le z y)) (sym p)
+    (subst (λ (z : Float). T (le (round f false a c) z)) (sym q) (round-mono f a c b d hc hd h))
 
 neg-odd : (d q k l : ℕ) → odd d true q k l ≡ neg (odd d false q k l)
 unfolding odd neg
@@ -307,6 +314,34 @@ above-positive (fin false m e) s t =
     let l : 0 * down e < m * up e * 1 = lt-cross nought (fin false m e) tt tt t in
     lt→ltb 0 m (first-pos m (up e) (first-pos (m * up e) 1 (subst (λ (n : ℕ). n < m * up e * 1) (zero-mul (down e)) l)))
 
+-- what has its sign set is at most 0
+pub signSet-low : (x : Float) → T (signSet x) → T (le x nought)
+signSet-low nan p = absurd p
+signSet-low (inf false) p = absurd p
+signSet-low (inf true) p = unfold le in tt
+signSet-low (fin false m e) p = absurd p
+signSet-low (fin true m e) p = unfold le in below-or-level (m * up e * 1) (0 * down e) (zero-mul (down e))
+  where
+    first : (s t : Bool) → T s → T (s || t)
+    first true t h = tt
+    first false t h = absurd h
+
+    below-or-level : (a b : ℕ) → b ≡ 0 → T (below true a false b || level true a false b)
+    below-or-level zero zero e = tt
+    below-or-level zero (suc b) e = absurd (suc-ne-zero b e)
+    below-or-level (suc a) b e = first (ltb 0 (suc a + b)) (level true (suc a) false b) (lt→ltb 0 (suc a + b) (omega arith))
+
+-- at most a finite value that is not negative: at most 0, or finite and above 0
+pub low-or-positive : (x y : Float) → T (finiteNonneg y) → T (le x y) → T (le x nought) ⊎ T (positive x)
+low-or-positive nan y q l = absurd (unfold le in l)
+low-or-positive (inf true) y q l = inl (signSet-low (inf true) tt)
+low-or-positive (inf false) y q l = absurd (not-inf-le y q l)
+low-or-positive (fin true m e) y q l = inl (signSet-low (fin true m e) tt)
+low-or-positive (fin false m e) y q l = elim (lt-or-le nought (fin false m e) tt tt) [
+  | inl h ↦ inr (above-positive (fin false m e) tt h)
+  | inr h ↦ inl h
+]
+
 -- nothing at most a value that is not above 0 is above 0
 pub no-less : (x y : Float) → T (finiteNonneg x) → T (finiteNonneg y)
     → T (le x y) → lt nought x ≡ true → lt nought y ≡ false → ⊥
@@ -338,14 +373,11 @@ mul-finite-mono : (f : Format) (x x' y y' : Float)
     → T (finiteNonneg x) → T (finiteNonneg x') → T (finiteNonneg y) → T (finiteNonneg y')
     → T (le x x') → T (le y y') → T (le (mul f x y) (mul f x' y'))
 mul-finite-mono f x x' y y' p p' q q' h k =
-    let a = num x * num y in
-    let c = den x * den y in
-    subst (λ (z : Float). T (le z (mul f x' y'))) (sym (mul-is f x y p q))
-    (subst (λ (z : Float). T (le (round f false a c) z)) (sym (mul-is f x' y' p' q'))
-    (round-mono f a c (num x' * num y') (den x' * den y') (mul-pos (den-pos x) (den-pos y)) (mul-pos (den-pos x') (den-pos y'))
+    rounded-le f (mul f x y) (mul f x' y') (num x * num y) (den x * den y) (num x' * num y') (den x' * den y')
+    (mul-is f x y p q) (mul-is f x' y' p' q') (mul-pos (den-pos x) (den-pos y)) (mul-pos (den-pos x') (den-pos y'))
     (le-trans (le-of-eq (mul-mul-mul-comm (num x) (num y) (den x') (den y')))
     (le-trans (mul-le-mul (le-cross x x' p p' h) (le-cross y y' q q' k))
-    (le-of-eq (mul-mul-mul-comm (num x') (den x) (num y') (den y)))))))
+    (le-of-eq (mul-mul-mul-comm (num x') (den x) (num y') (den y)))))
 
 times-inf : (f : Format) (x : Float) → T (positive x) → mul f x (inf false) ≡ inf false
 unfolding mul
@@ -421,6 +453,41 @@ mul-signSet f (fin false (suc m) e) (inf true) p q =
     subst (λ (b : Bool). T (signSet (cond b nan (inf true)))) (sym (eqb·suc-zero m)) tt
 mul-signSet f (fin false m e) (fin false n d) p q = absurd q
 mul-signSet f (fin false m e) (fin true n d) p q = round-signSet f (m * up e * (n * up d)) (down e * down d)
+
+-- ---- a quotient of values above 0
+
+div-is : (f : Format) (x y : Float) → T (positive x) → T (positive y)
+    → div f x y ≡ round f false (num x * den y) (num y * den x)
+unfolding div
+div-is f nan y p q = absurd p
+div-is f (inf s) y p q = absurd p
+div-is f (fin true m e) y p q = absurd p
+div-is f (fin false m e) nan p q = absurd q
+div-is f (fin false m e) (inf t) p q = absurd q
+div-is f (fin false m e) (fin true n d) p q = absurd q
+div-is f (fin false m e) (fin false zero d) p q = absurd (lt-irrefl 0 (ltb→lt 0 0 q))
+div-is f (fin false m e) (fin false (suc n) d) p q =
+    ap (λ (b : Bool). cond b (cond (eqb m 0) nan (inf false)) (round f false (m * up e * down d) (suc n * up d * down e)))
+    (eqb·suc-zero n)
+
+pub div-nonneg : (f : Format) (x y : Float) → T (positive x) → T (positive y) → T (nonneg (div f x y))
+div-nonneg f x y p q =
+    subst (λ (z : Float). T (nonneg z)) (sym (div-is f x y p q)) (round-nonneg f (num x * den y) (num y * den x))
+
+-- it grows with what is divided
+pub div-mono : (f : Format) (x x' y : Float) → T (positive x) → T (positive x') → T (positive y)
+    → T (le x x') → T (le (div f x y) (div f x' y))
+div-mono f x x' y p p' q h =
+    rounded-le f (div f x y) (div f x' y) (num x * den y) (num y * den x) (num x' * den y) (num y * den x')
+    (div-is f x y p q) (div-is f x' y p' q) (mul-pos above (den-pos x)) (mul-pos above (den-pos x'))
+    (turned (num x) (den x) (num x') (den x') (den y) (num y) (le-cross x x' (positive-finite x p) (positive-finite x' p') h))
+  where
+    above : 0 < num y
+    above = value-pos y (num y) (den y) q (den-pos y) (own-value y (positive-finite y q))
+
+    turned : (a c a' c' d n : ℕ) → a * c' ≤ a' * c → a * d * (n * c') ≤ a' * d * (n * c)
+    turned a c a' c' d n l =
+        simp (mul-assoc, mul-comm, mul-left-comm) (simp (mul-assoc, mul-comm) at (mul-le-mul-right (d * n) l))
 
 -- ---- opposite tests
 
