@@ -11,52 +11,15 @@ use Rattle.float.specs.Order.{finiteNonneg}
 use Rattle.float.specs.Units.{Has, has-finite, ordered}
 use Rattle.hammer.specs.Contact.{middle, bisect}
 use Rattle.hammer.specs.Guess.{lowEnd, highEnd}
-use Rattle.hammer.proofs.Middle.{Within, middle-within}
+use Rattle.hammer.proofs.Middle.{Within, Start, middle-within, upper, lower, weaker}
 
--- ---- the two ends of a turn
-
--- where halvings may start: two values of the format in their order, and the double of the higher is finite
-pub record Start (x y : Float) (a b : ℕ) : Type 0 where
-  pub fx : T (fits binary64 x)
-  pub fy : T (fits binary64 y)
-  pub hx : Has x a
-  pub hy : Has y b
-  pub order : a ≤ b
-  pub top : 2 * b < 2 ^ 2098
-
-mid : (x y : Float) (a b : ℕ) → Start x y a b → Within (middle x y) a b
-mid x y a b s = middle-within x y a b (s .fx) (s .fy) (s .hx) (s .hy) (s .order) (s .top)
-
-upper : (x y : Float) (a b : ℕ) (s : Start x y a b) (w : Within (middle x y) a b) → Start (middle x y) y (w .at) b
-upper x y a b s w = record { fx = w .fit; fy = s .fy; hx = w .has; hy = s .hy; order = w .most; top = s .top }
-
-lower : (x y : Float) (a b : ℕ) (s : Start x y a b) (w : Within (middle x y) a b) → Start x (middle x y) a (w .at)
-lower x y a b s w = record {
-  fx = s .fx;
-  fy = w .fit;
-  hx = s .hx;
-  hy = w .has;
-  order = w .least;
-  top = lt-of-le-of-lt (twice (w .at) b (w .most)) (s .top);
-}
-  where
-    twice : (c b : ℕ) → c ≤ b → 2 * c ≤ 2 * b
-    twice c b h = omega arith
+-- what halvings start from are values of the format between the two ends
 
 low-start : (x y : Float) (a b : ℕ) → Start x y a b → Within x a b
 low-start x y a b s = record { at = a; has = s .hx; fit = s .fx; least = le-of-eq refl; most = s .order }
 
 high-start : (x y : Float) (a b : ℕ) → Start x y a b → Within y a b
 high-start x y a b s = record { at = b; has = s .hy; fit = s .fy; least = s .order; most = le-of-eq refl }
-
-weaker : (x : Float) (a b c d : ℕ) → c ≤ a → b ≤ d → Within x a b → Within x c d
-weaker x a b c d h k w = record {
-  at = w .at;
-  has = w .has;
-  fit = w .fit;
-  least = le-trans h (w .least);
-  most = le-trans (w .most) k;
-}
 
 -- ---- what t says of the values at and below l, and at and above h
 abbrev pub Lows : (Float → Bool) → Float → Type 0
@@ -81,7 +44,7 @@ module _ (u d : Float → Bool) (opposite : Opposite u d) where
   unfolding lowEnd highEnd
   ends-within zero x y a b s = (low-start x y a b s, high-start x y a b s)
   ends-within (suc n) x y a b s =
-      let w = mid x y a b s in
+      let w = middle-within x y a b s in
       go (u (middle x y)) (d (middle x y)) (at-middle x y a b w) w (ends-within n)
     where
       go : (p q : Bool) → q ≡ not p → Within (middle x y) a b
@@ -109,7 +72,7 @@ module _ (u d : Float → Bool) (opposite : Opposite u d) where
   unfolding bisect lowEnd highEnd
   same-halvings t zero x y a b s lows highs = refl
   same-halvings t (suc n) x y a b s lows highs =
-      let w = mid x y a b s in
+      let w = middle-within x y a b s in
       go (u (middle x y)) (d (middle x y)) (at-middle x y a b w) w lows highs (same-halvings t n)
     where
       go : (p q : Bool) → q ≡ not p → Within (middle x y) a b

@@ -3,3 +3,4 @@ pub mod Middle
 pub mod Guess
 pub mod Threshold
 pub mod Found
+pub mod Bound

@@ -7,7 +7,7 @@ ghost use mathlib.Core.Bool.{true, cond};
 ghost use mathlib.Core.Logic.{_⊎_};
 ghost use lib.Ieee.{eq};
 ghost use Rattle.float.specs.Float.{zero as +0};
-ghost use Rattle.hammer.specs.Contact.{feltForce, bisect, forceOf};
+ghost use Rattle.hammer.specs.Contact.{feltForce, bisect, forceOf, ForceBound};
 ghost use Rattle.hammer.specs.Guess.{tooLow, lowByGuess, highByGuess, Moderate, AllModerate};
 
 // The exponent is the file's word: halves, or 256 and quarters.
@@ -256,9 +256,9 @@ pub fn search_force(hammer: Hammer, eps_r: f64, c0: f64, c1: f64) -> Search
     Search { force, trials: 3 }
 }
 
-// The force alone.
+// The force alone. It lies from 0 to c0 / c1, rounded, whatever stiffness, exponent and memory are.
 pub fn contact_force(hammer: Hammer, eps_r: f64, c0: f64, c1: f64) -> f64
-    ensures { λ r. ⌜ r ≡ forceOf hammer «eps_r» c0 c1 ⌝ }
+    ensures { λ r. ⌜ (r ≡ forceOf hammer «eps_r» c0 c1) × ForceBound c0 c1 r ⌝ }
 {
     let search = search_force(hammer, eps_r, c0, c1);
     search.force

@@ -18,7 +18,7 @@ memory-after-requires c κs = search needs
 
 returns : tie.Need-returns
 unfolding touched
-returns c = rw (c .memory-after .ensures, c .before .power .ensures, c .before .before .positive-part .ensures, c .before .before .before .contact-force .ensures)
+returns c = rw (c .memory-after .ensures, c .before .power .ensures, c .before .before .positive-part .ensures, c .before .before .before .contact-force .ensures .0)
 
 pub touch-spec : {M : Type 1} → statement M
 touch-spec =
