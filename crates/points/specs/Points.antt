@@ -24,11 +24,18 @@ remembered c memory xp =
     (add binary64 memory (mul binary64 (minOf (div binary64 (c .dt) (c .hammer .tau)) one) (sub binary64 xp memory)))
     memory
 
--- a contact with the hammer at y_h, of speed v_h
+-- the compression that no force would leave, with the hammer at y_h, of speed v_h; and what a force of 1 takes off it, the same for all strings
+abbrev pub c0Of : Constants → Float → Float → Float → Reads → Float
+c0Of c yh vh ys r = add binary64 (sub binary64 yh ys) (mul binary64 (c .dt) (sub binary64 (sub binary64 vh (r .a)) (r .b)))
+
+abbrev pub c1Of : Constants → Float
+c1Of c = div binary64 (c .dt) (c .«two_z»)
+
+-- a contact with the hammer
 unfoldable pub touched : Constants → Float → Float → Float → Float → Reads → Contact
 touched c yh vh ys memory r =
-    let c0 = add binary64 (sub binary64 yh ys) (mul binary64 (c .dt) (sub binary64 (sub binary64 vh (r .a)) (r .b))) in
-    let c1 = div binary64 (c .dt) (c .«two_z») in
+    let c0 = c0Of c yh vh ys r in
+    let c1 = c1Of c in
     let f = forceOf (c .hammer) (mul binary64 (c .hammer .eps) memory) c0 c1 in
     let xp = powerOf (positivePart (sub binary64 c0 (mul binary64 c1 f))) (c .hammer .exponent) in
     record { force = f; memory = remembered c memory xp }

@@ -1,12 +1,20 @@
--- Only a hammer that flies is in contact; a sample pushes one force at most; it reads of `down` only the keys there are, and of the lent cells asks only their number.
-use mathlib.Core.Path.{_≡_}
+-- Only a hammer that flies is in contact; a sample pushes one force at most, bounded as the contacts' forces are; it reads of `down` only the keys there are, and of the
+-- lent cells asks only their number.
+use mathlib.Core.Path.{_≡_, ap, subst}
 use mathlib.Core.Bool.{Bool, true, false}
-use mathlib.Core.List.{List}
+use mathlib.Core.List.{List, [], _∷_}
 use Prim.Native.Nat.{ℕ, _≤_, _<_}
 use native.Mathlib.Omega.{arith}
-use lib.ListN.{length}
-use lib.Ieee.{Float}
+use lib.Dec.{T}
+use lib.ListN.{length, getD}
+use lib.Ieee.{Float, le}
+use lib.Ieee.Positive.{positive}
+use Rattle.float.specs.Float.{zero as +0}
 use Rattle.points.specs.declared.HammerState.the-variants.{Resting}
+use Rattle.string.specs.declared.Reads.{Reads}
+use Rattle.points.specs.Points.{c1Of}
+use Rattle.strings.specs.Strings.{readsAll, filteredAll}
+use Rattle.strings.specs.Bound.{TopsFit, pointBound, force-sum-bound}
 use Rattle.keys.specs.Laws.{dampers-same}
 use Rattle.sample.specs.declared.Motion.{Motion}
 use Rattle.sample.specs.declared.Setup.{Setup}
@@ -36,3 +44,28 @@ module _ (m : Model) (down : ℕ → Bool) (t : ℕ) (R : List Float) (motion : 
   pub sampled-same : (up : ℕ → Bool) → ((k : ℕ) → k < length (m .keys) → down k ≡ up k) → sampled m down t R motion w ≡ sampled m up t R motion w
   unfolding sampled
   sampled-same up h = rw (dampers-same (m .keys) down up R h)
+
+  -- what the strings read, and their cells at the points
+  abbrev v : List Reads
+  v = readsAll (m .strings) t w
+
+  abbrev w' : List Float
+  w' = filteredAll (m .strings) t w
+
+  abbrev bound : Float
+  bound = pointBound (m .constants) (motion .hammer) (m .strings) v w' +0
+
+  -- Document 02, W6, summed: a force f that the sample pushes lies from 0 to the sum of the bounds of the strings that the hammer is at, rounded at each string as the
+  -- forces' sum is
+  pub sampled-bound : T (positive (c1Of (m .constants))) → TopsFit (m .constants) (motion .hammer) (m .strings) v w'
+      → (f : Float) → sampled m down t R motion w .force ≡ f ∷ [] → T (le +0 f) × T (le f bound)
+  unfolding sampled
+  sampled-bound q fit f e =
+      by-test (pushedBy (motion .hammer)) _ e (force-sum-bound (m .constants) (motion .hammer) (m .strings) v w' q fit)
+    where
+      none : _≡_ {A = ℕ} 0 1 → ⊥
+      none h = omega arith
+
+      by-test : (b : Bool) (s : Float) → forcesOf b s ≡ f ∷ [] → T (le +0 s) × T (le s bound) → T (le +0 f) × T (le f bound)
+      by-test true s h k = subst (λ (x : Float). T (le +0 x) × T (le x bound)) (ap (λ (l : List Float). getD l 0 +0) h) k
+      by-test false s h k = absurd (none (ap length h))

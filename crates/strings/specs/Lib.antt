@@ -1,3 +1,4 @@
 pub mod Strings
 pub mod Walk
 pub mod Laws
+pub mod Bound
