@@ -13,13 +13,14 @@ use lib.Ieee.Bits.{is-true}
 use lib.Ieee.Fits.{div-fits}
 use lib.Ieee.Positive.{positive}
 use Rattle.float.specs.Float.{positivePart, zero as +0}
-use Rattle.float.specs.Order.{nonneg, finiteNonneg, nought, zero-is, finite-nonneg, positive-finite, cross-le, nought-least, not-inf-le, order-trans, finite-below}
+use Rattle.float.specs.Order.{nonneg, finiteNonneg, nought, zero-is, finite-nonneg, positive-finite, cross-le, zero-nonneg, zero-least, not-inf-le, order-trans, finite-below}
 use Rattle.float.specs.Order.{signSet-low, low-or-positive, div-nonneg, div-mono}
 use Rattle.float.specs.Difference.{part-nonneg, under-part}
 use Rattle.float.specs.Units.{Has, has-finite, in-order, ordered}
 use Rattle.hammer.specs.declared.Hammer.{Hammer}
 use Rattle.hammer.specs.Contact.{feltForce, middle, bisect, forceOf, halfMax, ForceBound}
 use Rattle.hammer.specs.Guess.{tooLow}
+use Rattle.hammer.proofs.Halvings.{no-approach}
 use Rattle.hammer.proofs.Middle.{Within, Start, middle-within, upper, lower, weaker, from-zero}
 
 -- what halvings end in lies between the ends that they start from, for any test
@@ -38,44 +39,39 @@ bisect-within t (suc n) x y a b s = go (t (middle x y)) (middle-within x y a b s
 -- ---- twice a value at most halfMax is finite
 
 -- halfMax and its units
-abbrev most : Float
-most = fin false (2 ^ 53 - 1) (pos 970)
+abbrev largestHalf : Float
+largestHalf = fin false (2 ^ 53 - 1) (pos 970)
 
-abbrev mostUnits : ℕ
-mostUnits = (2 ^ 53 - 1) * 2 ^ 970 * 2 ^ 1074
+abbrev largestUnits : ℕ
+largestUnits = (2 ^ 53 - 1) * 2 ^ 970 * 2 ^ 1074
 
-most-is : halfMax ≡ most
+half-max-is : halfMax ≡ largestHalf
 unfolding ofBits
-most-is = refl
+half-max-is = refl
 
-room : (y : Float) → T (le y most) → (b : ℕ) → Has y b → 2 * b < 2 ^ 2098
-room y l b h = lt-of-le-of-lt (twice b mostUnits (in-order y most b mostUnits h (refl, refl) l)) (lit< tt)
+doubled : (y : Float) → T (le y largestHalf) → (b : ℕ) → Has y b → 2 * b < 2 ^ 2098
+doubled y l b h = lt-of-le-of-lt (twice b largestUnits (in-order y largestHalf b largestUnits h (refl, refl) l)) (lit< tt)
   where
     twice : (b c : ℕ) → b ≤ c → 2 * b ≤ 2 * c
     twice b c h = omega arith
 
 -- ---- the force
 
+-- from 0 to top, the sign clear
 abbrev UpTo : Float → Float → Type 0
 UpTo f top = T (finiteNonneg f) × T (le f top)
 
-from-0 : (x : Float) → T (nonneg x) → T (le +0 x)
-from-0 x p = subst (λ (z : Float). T (le z x)) (sym zero-is) (nought-least x p)
-
-zero-nonneg : T (nonneg +0)
-zero-nonneg = subst (λ (z : Float). T (nonneg z)) (sym zero-is) tt
-
-at-most : (x : Float) → T (le x halfMax) → T (le x most)
-at-most x l = subst (λ (z : Float). T (le x z)) most-is l
+at-most : (x : Float) → T (le x halfMax) → T (le x largestHalf)
+at-most x l = subst (λ (z : Float). T (le x z)) half-max-is l
 
 -- where the rounded c0 / c1 is at most halfMax, c0 is at most 0, or finite and above 0
-divided : (c0 c1 : Float) → T (positive c1) → T (le (div binary64 c0 c1) most) → T (le c0 nought) ⊎ T (positive c0)
+divided : (c0 c1 : Float) → T (positive c1) → T (le (div binary64 c0 c1) largestHalf) → T (le c0 nought) ⊎ T (positive c0)
 divided nan c1 q l = absurd (unfold div le in l)
 divided (inf true) c1 q l = inl (signSet-low (inf true) tt)
 divided (inf false) nan q l = absurd q
 divided (inf false) (inf s) q l = absurd q
 divided (inf false) (fin true n d) q l = absurd q
-divided (inf false) (fin false n d) q l = absurd (not-inf-le most tt (unfold div in l))
+divided (inf false) (fin false n d) q l = absurd (not-inf-le largestHalf tt (unfold div in l))
 divided (fin true m e) c1 q l = inl (signSet-low (fin true m e) tt)
 divided (fin false m e) c1 q l = let x = fin false m e in low-or-positive x x tt (cross-le x x tt tt (le-of-eq refl))
 
@@ -88,16 +84,15 @@ module _ (hammer : Hammer) (eps-r c0 c1 : Float) where
 
   -- it is 0 where c0 is at most 0
   no-force : T (le c0 nought) → force ≡ +0
-  unfolding forceOf
-  no-force l = rw (is-true (le c0 +0) (subst (λ (z : Float). T (le c0 z)) (sym zero-is) l))
+  no-force l = sym (no-approach hammer eps-r c0 c1 (is-true (le c0 +0) (subst (λ (z : Float). T (le c0 z)) (sym zero-is) l)))
 
   -- its sign is clear, and it is at most top
-  within : T (positive c0) → T (positive c1) → T (le top most) → UpTo force top
+  within : T (positive c0) → T (positive c1) → T (le top largestHalf) → UpTo force top
   unfolding forceOf
   within p q l = go (le c0 +0) (le (feltForce hammer eps-r c0) +0)
     where
       s : (b : ℕ) × Start +0 top 0 b
-      s = from-zero top (div-fits binary64 c0 c1) (finite-below top most (div-nonneg binary64 c0 c1 p q) tt l) (room top l)
+      s = from-zero top (div-fits binary64 c0 c1) (finite-below top largestHalf (div-nonneg binary64 c0 c1 p q) tt l) (doubled top l)
 
       up-to : (f : Float) → Within f 0 (s .0) → UpTo f top
       up-to f w = (has-finite f (w .at) (w .has), ordered f top (w .at) (s .0) (w .has) (s .1 .hy) (w .most))
@@ -112,7 +107,7 @@ module _ (hammer : Hammer) (eps-r c0 c1 : Float) where
 
   -- THE LAW of the bound
   pub force-bound : ForceBound c0 c1 force
-  force-bound p q l = let w = within p q (at-most top l) in (from-0 force (finite-nonneg force (w .0)), w .1)
+  force-bound p q l = let w = within p q (at-most top l) in (zero-least force (finite-nonneg force (w .0)), w .1)
 
   -- THE LAW for a limiter: no contact of a c0 up to c pushes with more than the rounded c / c1
   pub force-under : (c : Float) → T (positive c) → T (positive c1) → T (le (div binary64 c c1) halfMax) → T (le c0 c)
@@ -121,12 +116,12 @@ module _ (hammer : Hammer) (eps-r c0 c1 : Float) where
       let t = div binary64 c c1 in
       let nt = div-nonneg binary64 c c1 p q in
       elim (low-or-positive c0 c (positive-finite c p) h) [
-        | inl z ↦ subst (λ (f : Float). T (le +0 f) × T (le f t)) (sym (no-force z)) (from-0 +0 zero-nonneg, from-0 t nt)
+        | inl z ↦ subst (λ (f : Float). T (le +0 f) × T (le f t)) (sym (no-force z)) (zero-least +0 zero-nonneg, zero-least t nt)
         | inr p0 ↦
             let d = div-mono binary64 c0 c c1 p0 p q h in
             let nd = div-nonneg binary64 c0 c1 p0 q in
-            let w = within p0 q (order-trans top t most nd nt tt d (at-most t l)) in
-            (from-0 force (finite-nonneg force (w .0)), order-trans force top t (finite-nonneg force (w .0)) nd nt (w .1) d)
+            let w = within p0 q (order-trans top t largestHalf nd nt tt d (at-most t l)) in
+            (zero-least force (finite-nonneg force (w .0)), order-trans force top t (finite-nonneg force (w .0)) nd nt (w .1) d)
       ]
 
   -- the same for every c0: from 0 to the positive part of top
@@ -134,10 +129,10 @@ module _ (hammer : Hammer) (eps-r c0 c1 : Float) where
   force-part q l = elim (divided c0 c1 q (at-most top l)) [
     | inl z ↦
         subst (λ (f : Float). T (nonneg f) × T (le f (positivePart top))) (sym (no-force z))
-        (zero-nonneg, from-0 (positivePart top) (part-nonneg top))
+        (zero-nonneg, zero-least (positivePart top) (part-nonneg top))
     | inr p ↦
         let w = within p q (at-most top l) in
         let n = finite-nonneg force (w .0) in
-        let s = finite-below top most (div-nonneg binary64 c0 c1 p q) tt (at-most top l) in
+        let s = finite-below top largestHalf (div-nonneg binary64 c0 c1 p q) tt (at-most top l) in
         (n, under-part force top n s (w .1))
   ]

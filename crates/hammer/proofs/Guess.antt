@@ -1,14 +1,13 @@
 -- Halvings by two opposite tests u and d in the place of a test t that is one of a threshold: where t finds the low end that they leave too low, and the high end not,
 -- t would have gone the same way at every turn, since each middle lies at or below the low end that is left, or at or above the high one. Assumes nothing.
 use mathlib.Core.Path.{_≡_, refl, sym, subst}
-use Prim.Native.Nat.{ℕ, zero, suc, _*_, _^_, _≤_, _<_}
-use native.Mathlib.Nat.{le-trans, le-of-eq, lt-of-le-of-lt}
-use native.Mathlib.Omega.{arith}
+use Prim.Native.Nat.{ℕ, zero, suc}
+use native.Mathlib.Nat.{le-of-eq}
 use mathlib.Core.Bool.{Bool, true, false, not, cond, true≢false, false≢true}
 use lib.Dec.{T}
 use lib.Ieee.{Float, binary64, le, fits}
 use Rattle.float.specs.Order.{finiteNonneg}
-use Rattle.float.specs.Units.{Has, has-finite, ordered}
+use Rattle.float.specs.Units.{has-finite, ordered}
 use Rattle.hammer.specs.Contact.{middle, bisect}
 use Rattle.hammer.specs.Guess.{lowEnd, highEnd}
 use Rattle.hammer.proofs.Middle.{Within, Start, middle-within, upper, lower, weaker}

@@ -1,6 +1,5 @@
 -- The bound of a contact's force (document 02, W6) for a string as it stands, whether the hammer is at it or not. Definitions, and the law of one string.
 use mathlib.Core.Bool.{Bool, true, false, cond}
-use mathlib.Core.Path.{sym, subst}
 use mathlib.Core.List.{List}
 use Prim.Native.Nat.{ℕ}
 use lib.Dec.{T, eqb}
@@ -8,7 +7,7 @@ use lib.ListN.{getD}
 use lib.Ieee.{Float, nan, binary64, mul, div, le}
 use lib.Ieee.Positive.{positive}
 use Rattle.float.specs.Float.{positivePart, zero as +0}
-use Rattle.float.specs.Order.{nonneg, zero-is, nought-least}
+use Rattle.float.specs.Order.{nonneg, zero-nonneg, zero-least}
 use Rattle.float.specs.Difference.{part-nonneg}
 use Rattle.hammer.specs.Contact.{halfMax}
 use Rattle.hammer.proofs.Bound.{force-part}
@@ -30,9 +29,7 @@ abbrev pub topAt : Constants → HammerState → StringDesign → Reads → List
 topAt c h d r p = topOf c h (d .key) (getD p (atYS d) nan) r
 
 no-contact : T (nonneg +0) × T (le +0 (positivePart +0))
-no-contact =
-    let n = part-nonneg +0 in
-    (subst (λ (z : Float). T (nonneg z)) (sym zero-is) tt, subst (λ (z : Float). T (le z (positivePart +0))) (sym zero-is) (nought-least (positivePart +0) n))
+no-contact = (zero-nonneg, zero-least (positivePart +0) (part-nonneg +0))
 
 -- the force is not negative, and at most the positive part of that
 pub contact-bound : (c : Constants) (h : HammerState) (key : ℕ) (ys memory : Float) (r : Reads) → T (positive (c1Of c)) → T (le (topOf c h key ys r) halfMax)

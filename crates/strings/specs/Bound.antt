@@ -1,14 +1,13 @@
 -- The bound of a contact's force (document 02, W6) summed over the strings: rounding keeps the order, so the forces' sum is at most the bounds', both added up string by
 -- string from +0. Definitions, and the law.
 use mathlib.Core.List.{List}
-use mathlib.Core.Path.{sym, subst}
 use Prim.Native.Nat.{ℕ}
 use lib.Dec.{T}
 use lib.ListN.{getD}
 use lib.Ieee.{Float, nan, binary64, add, le}
 use lib.Ieee.Positive.{positive}
 use Rattle.float.specs.Float.{positivePart, zero as +0}
-use Rattle.float.specs.Order.{nonneg, nought, zero-is, nought-least}
+use Rattle.float.specs.Order.{nonneg, zero-nonneg, zero-least}
 use Rattle.float.specs.Difference.{part-nonneg}
 use Rattle.float.specs.Sum.{add-nonneg, add-mono}
 use Rattle.cells.specs.Fold.{foldParts}
@@ -62,7 +61,7 @@ module _ (c : Constants) (h : HammerState) (ds : List StringDesign) (v : List Re
   force-sum-bound fit =
       let u = fold-related sizeOf (TopFits c h v) Under (pointForceOne c h v) (pointBoundOne c h v) keep 0 ds w noForce +0 fit start in
       let f = pointForce c h ds v w noForce .«force_sum» in
-      (subst (λ (z : Float). T (le z f)) (sym zero-is) (nought-least f (u .0)), u .2)
+      (zero-least f (u .0), u .2)
     where
       start : Under noForce +0
-      start = subst (λ (z : Float). T (nonneg z) × T (nonneg z) × T (le z z)) (sym zero-is) (tt, tt, nought-least nought tt)
+      start = (zero-nonneg, zero-nonneg, zero-least +0 zero-nonneg)
