@@ -215,12 +215,44 @@ struct Contact {
     c1: f64,
 }
 
-fn force_of(tally: &mut Tally, random: &mut Random, c: Contact) {
-    let [eps, mass, tau] = [random.any(), random.any(), random.any()];
-    let rust = inside::contact_force(c.stiffness, c.exponent, c.eps_r, c.c0, c.c1);
-    let rattle = leaf_contact_force(c.stiffness, c.exponent, eps, mass, tau, c.eps_r, c.c0, c.c1);
-    let given = [word(c.stiffness), c.exponent as u64, word(c.eps_r), word(c.c0), word(c.c1)];
-    tally.answer(alike(rust, rattle), &given, &[word(rust)], &[word(rattle)]);
+/// What was compared, and what document 02, W6, says of it.
+struct Forces {
+    random: Random,
+    answers: Tally,
+    bounds: Tally,
+    /// How many are c0 / c1 itself and above 0, and how many lie past it where it is above half the largest f64.
+    at_bound: u64,
+    past: u64,
+}
+
+impl Forces {
+    fn compare(&mut self, c: Contact) {
+        let [eps, mass, tau] = [self.random.any(), self.random.any(), self.random.any()];
+        let rust = inside::contact_force(c.stiffness, c.exponent, c.eps_r, c.c0, c.c1);
+        let rattle = leaf_contact_force(c.stiffness, c.exponent, eps, mass, tau, c.eps_r, c.c0, c.c1);
+        self.answers.answer(alike(rust, rattle), &given(&c), &[word(rust)], &[word(rattle)]);
+        self.hold(&c, rattle);
+    }
+
+    /// For c0 and c1 finite and above 0, with c0 / c1 at most half the largest f64, the force lies from 0 to c0 / c1.
+    fn hold(&mut self, c: &Contact, force: f64) {
+        let bound = c.c0 / c.c1;
+        if ![c.c0, c.c1].iter().all(|x| *x > 0.0 && x.is_finite()) {
+            return;
+        }
+        if bound <= HALF_MAX {
+            self.bounds.answer((0.0..=bound).contains(&force), &given(c), &[word(bound)], &[word(force)]);
+            self.at_bound += u64::from(force == bound && force > 0.0);
+        } else {
+            self.past += u64::from(force > bound);
+        }
+    }
+}
+
+const HALF_MAX: f64 = f64::MAX / 2.0;
+
+fn given(c: &Contact) -> [u64; 5] {
+    [word(c.stiffness), c.exponent as u64, word(c.eps_r), word(c.c0), word(c.c1)]
 }
 
 /// Felt and string as the instruments have them.
@@ -231,21 +263,62 @@ fn ordinary(random: &mut Random, exponent: u32) -> Contact {
     Contact { stiffness, exponent, eps_r, c0, c1: random.magnitude(-8.0, -3.0) }
 }
 
-fn forces(stride: u64) -> Tally {
-    let mut tally = Tally::new("contact_force", stride);
-    let mut random = Random::new(9);
+/// Pairs c0 and c1 whose quotient is at or beside half the largest f64, and pairs of which one is subnormal or the
+/// quotient is, or is rounded to 0 or to infinity.
+fn quotients() -> Vec<(f64, f64)> {
+    let tiny = f64::from_bits(1);
+    let mut pairs = vec![(1.0, f64::MAX), (f64::MAX, f64::MAX), (f64::MAX, 1.0), (f64::MAX, tiny)];
+    for c1 in [tiny, 2f64.powi(-1030), 2f64.powi(-60), 0.5, 1.0, 2.0] {
+        let c0 = HALF_MAX * c1;
+        pairs.extend([c0.next_down(), c0, c0.next_up()].map(|c0| (c0, c1)));
+    }
+    for c0 in [1, 2, 3, 0x000f_ffff_ffff_ffff].map(f64::from_bits) {
+        pairs.extend([tiny, 3.0 * tiny, 0.5, 1.0, 1.5, 2.0, 3.0, f64::MAX].map(|c1| (c0, c1)));
+    }
+    pairs
+}
+
+/// Felts and memories of every kind on `quotients`; the forces of a felt of infinite stiffness are kept, one in three.
+fn forces_at_their_bounds(forces: &mut Forces) {
+    let kinds = [f64::NAN, f64::INFINITY, f64::MAX, 1e9, 1.0, f64::from_bits(1), 0.0];
+    let signed = || kinds.into_iter().flat_map(|x| [x, -x]);
+    for exponent in felt_words().chain([0, 1, 11, 255, 256, 259, 277, 512]) {
+        for (c0, c1) in quotients() {
+            for stiffness in signed() {
+                for eps_r in signed() {
+                    forces.compare(Contact { stiffness, exponent, eps_r, c0, c1 });
+                }
+            }
+        }
+    }
+    for (c0, c1) in quotients().into_iter().step_by(3) {
+        let c = Contact { stiffness: f64::INFINITY, exponent: 5, eps_r: 0.0, c0, c1 };
+        forces.answers.keep(&given(&c), &[word(inside::contact_force(c.stiffness, c.exponent, c.eps_r, c0, c1))]);
+    }
+}
+
+fn forces(stride: u64) -> [Tally; 2] {
+    let mut forces = Forces {
+        random: Random::new(9),
+        answers: Tally::new("contact_force", stride),
+        bounds: Tally::new("force, bound", 0),
+        at_bound: 0,
+        past: 0,
+    };
     for exponent in felt_words() {
         for turn in 0..8_000 {
-            let mut c = ordinary(&mut random, exponent);
+            let random = &mut forces.random;
+            let mut c = ordinary(random, exponent);
             match turn % 8 {
                 0 => c.c0 = -c.c0,
                 1 => c.stiffness = random.magnitude(13.0, 300.0),
                 2 => c.c1 = 0.0,
                 _ => (),
             }
-            force_of(&mut tally, &mut random, c);
+            forces.compare(c);
         }
         for _ in 0..6_000 {
+            let random = &mut forces.random;
             let c = Contact {
                 stiffness: random.tame_or_wild(0.0, 1e15),
                 exponent,
@@ -253,18 +326,23 @@ fn forces(stride: u64) -> Tally {
                 c0: random.tame_or_wild(0.0, 2.0),
                 c1: random.tame_or_wild(0.0, 1.0),
             };
-            force_of(&mut tally, &mut random, c);
+            forces.compare(c);
+            let random = &mut forces.random;
             let [stiffness, eps_r, c0, c1] = [random.any(), random.edge(), random.any(), random.edge()];
-            force_of(&mut tally, &mut random, Contact { stiffness, exponent, eps_r, c0: c0.abs(), c1 });
+            forces.compare(Contact { stiffness, exponent, eps_r, c0: c0.abs(), c1 });
         }
     }
     for exponent in [0, 1, 11, 12, 13, 40, 255, 256, 259, 277, 278, 279, 512] {
         for _ in 0..500 {
-            let c = ordinary(&mut random, exponent);
-            force_of(&mut tally, &mut random, c);
+            let c = ordinary(&mut forces.random, exponent);
+            forces.compare(c);
         }
     }
-    tally
+    forces_at_their_bounds(&mut forces);
+    let (at_bound, past) = (forces.at_bound, forces.past);
+    println!("{at_bound} forces above 0 are c0 / c1, {past} are past it where it is above half the largest f64");
+    assert!(at_bound > 0 && past > 0, "the bound was not tried where it is reached, or not where it does not hold");
+    [forces.answers, forces.bounds]
 }
 
 // ---- the cuts
@@ -457,6 +535,7 @@ fn loop_filters(stride: u64) -> Tally {
 fn main() {
     let sample = std::env::args().nth(1);
     let stride = |one_in: u64| if sample.is_some() { one_in } else { 0 };
+    let [forces, bounds] = forces(stride(2_150));
     let tallies = [
         roots(stride(1_700)),
         powers(stride(2_300)),
@@ -466,7 +545,8 @@ fn main() {
         clamps(stride(1_500)),
         positive_parts(stride(2_000)),
         roundings(stride(2_000)),
-        forces(stride(1_300)),
+        forces,
+        bounds,
         cuts(stride(500)),
         allpasses(stride(800)),
         rows(stride(3_000)),
