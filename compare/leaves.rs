@@ -215,6 +215,8 @@ struct Contact {
     c1: f64,
 }
 
+const HALF_MAX: f64 = f64::MAX / 2.0;
+
 /// What was compared, and what document 02, W6, says of it.
 struct Forces {
     random: Random,
@@ -248,8 +250,6 @@ impl Forces {
         }
     }
 }
-
-const HALF_MAX: f64 = f64::MAX / 2.0;
 
 fn given(c: &Contact) -> [u64; 5] {
     [word(c.stiffness), c.exponent as u64, word(c.eps_r), word(c.c0), word(c.c1)]
@@ -297,14 +297,8 @@ fn forces_at_their_bounds(forces: &mut Forces) {
     }
 }
 
-fn forces(stride: u64) -> [Tally; 2] {
-    let mut forces = Forces {
-        random: Random::new(9),
-        answers: Tally::new("contact_force", stride),
-        bounds: Tally::new("force, bound", 0),
-        at_bound: 0,
-        past: 0,
-    };
+/// Of every word of an instrument ordinary contacts and wild ones; of other words ordinary ones.
+fn random_forces(forces: &mut Forces) {
     for exponent in felt_words() {
         for turn in 0..8_000 {
             let random = &mut forces.random;
@@ -338,6 +332,17 @@ fn forces(stride: u64) -> [Tally; 2] {
             forces.compare(c);
         }
     }
+}
+
+fn forces(stride: u64) -> [Tally; 2] {
+    let mut forces = Forces {
+        random: Random::new(9),
+        answers: Tally::new("contact_force", stride),
+        bounds: Tally::new("force, bound", 0),
+        at_bound: 0,
+        past: 0,
+    };
+    random_forces(&mut forces);
     forces_at_their_bounds(&mut forces);
     let (at_bound, past) = (forces.at_bound, forces.past);
     println!("{at_bound} forces above 0 are c0 / c1, {past} are past it where it is above half the largest f64");

@@ -1,9 +1,8 @@
--- The felt's force lies from 0 to the rounded c0 / c1, whatever its tests say: each middle lies between the two ends that it halves, and so does what the halvings end in.
--- Nothing is asked of the test, so nothing is asked of stiffness, exponent and memory. Assumes nothing.
+-- For c0 and c1 above 0 and c0 / c1 at most half the largest value, the felt's force lies from 0 to the rounded c0 / c1: each middle lies between the two ends that it
+-- halves, and so does what the halvings end in. Nothing is asked of the test, so nothing of stiffness, exponent and memory. Assumes nothing.
 use mathlib.Core.Path.{_≡_, refl, sym, subst}
-use Prim.Native.Nat.{ℕ, zero, suc, _-_, _*_, _^_, _≤_, _<_, zero-le}
+use Prim.Native.Nat.{ℕ, zero, suc, _-_, _*_, _^_, _<_, zero-le}
 use native.Mathlib.Nat.{le-of-eq, lt-of-le-of-lt}
-use native.Mathlib.Omega.{arith}
 use mathlib.Core.Logic.{_⊎_, inl, inr}
 use mathlib.Core.Bool.{Bool, true, false, cond}
 use lib.IntN.{pos}
@@ -21,7 +20,7 @@ use Rattle.hammer.specs.declared.Hammer.{Hammer}
 use Rattle.hammer.specs.Contact.{feltForce, middle, bisect, forceOf, halfMax, ForceBound}
 use Rattle.hammer.specs.Guess.{tooLow}
 use Rattle.hammer.proofs.Halvings.{no-approach}
-use Rattle.hammer.proofs.Middle.{Within, Start, middle-within, upper, lower, weaker, from-zero}
+use Rattle.hammer.proofs.Middle.{Within, Start, twice-le, middle-within, upper, lower, weaker, from-zero}
 
 -- what halvings end in lies between the ends that they start from, for any test
 bisect-within : (t : Float → Bool) (n : ℕ) (x y : Float) (a b : ℕ) → Start x y a b → Within (bisect t n x y) a b
@@ -50,10 +49,7 @@ unfolding ofBits
 half-max-is = refl
 
 doubled : (y : Float) → T (le y largestHalf) → (b : ℕ) → Has y b → 2 * b < 2 ^ 2098
-doubled y l b h = lt-of-le-of-lt (twice b largestUnits (in-order y largestHalf b largestUnits h (refl, refl) l)) (lit< tt)
-  where
-    twice : (b c : ℕ) → b ≤ c → 2 * b ≤ 2 * c
-    twice b c h = omega arith
+doubled y l b h = lt-of-le-of-lt (twice-le b largestUnits (in-order y largestHalf b largestUnits h (refl, refl) l)) (lit< tt)
 
 -- ---- the force
 

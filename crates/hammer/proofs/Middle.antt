@@ -7,12 +7,14 @@ use native.Mathlib.Omega.{arith}
 use mathlib.Core.Bool.{true, false, true≢false}
 use lib.Dec.{T}
 use lib.Pow.{pow-pos}
-use lib.Ieee.{Float, nan, inf, fin, binary64, up, down, round, sum, add, mul, fits, ofBits}
+use lib.Ieee.{Float, nan, inf, fin, binary64, up, down, round, add, mul, fits, ofBits}
 use lib.Ieee.Fits.{down-pos, round-fits}
+use lib.Ieee.Positive.{num, den, den-pos, value→cross}
 use lib.Ieee.Scale.{round-same}
 use Rattle.float.specs.Float.{half, zero as +0}
 use Rattle.float.specs.Order.{finiteNonneg, nought, zero-is}
-use Rattle.float.specs.Units.{Has, Rep, rep, has, between}
+use Rattle.float.specs.Sum.{add-is}
+use Rattle.float.specs.Units.{Has, Rep, has-finite, rep, has, between}
 use Rattle.float.specs.Difference.{zero-fits}
 use Rattle.hammer.specs.Contact.{middle}
 
@@ -26,34 +28,26 @@ twice-rep a r = (
 
 -- ---- the sum and the half, in units
 
-plain : (a b c : ℕ) → sum binary64 false a false b c ≡ round binary64 false (a + b) c
-unfolding sum
-plain a b c = refl
-
 sum-is : (x y : Float) (a b : ℕ) → Has x a → Has y b → add binary64 x y ≡ round binary64 false (a + b) (2 ^ 1074)
-unfolding add
-sum-is nan y a b h k = absurd h
-sum-is (inf s) y a b h k = absurd h
-sum-is (fin true m e) y a b h k = absurd (true≢false (h .0))
-sum-is (fin false m e) nan a b h k = absurd k
-sum-is (fin false m e) (inf s) a b h k = absurd k
-sum-is (fin false m e) (fin true n d) a b h k = absurd (true≢false (k .0))
-sum-is (fin false m e) (fin false n d) a b h k =
+sum-is x y a b h k =
     let P = 2 ^ 1074 in
-    let A = m * up e * down d in
-    let B = n * up d * down e in
-    let C = down e * down d in
+    let A = num x * den y in
+    let B = num y * den x in
+    let C = den x * den y in
     let u : A * P ≡ a * C =
-    mul-right-comm (m * up e) (down d) P ∙ ap (λ (y : ℕ). y * down d) (h .1) ∙ mul-assoc a (down e) (down d) in
+    mul-right-comm (num x) (den y) P ∙ ap (λ (z : ℕ). z * den y) (value→cross x a P h) ∙ mul-assoc a (den x) (den y) in
     let v : B * P ≡ b * C =
-    mul-right-comm (n * up d) (down e) P ∙ ap (λ (y : ℕ). y * down e) (k .1) ∙ mul-assoc b (down d) (down e)
-    ∙ ap (λ (y : ℕ). b * y) (mul-comm (down d) (down e)) in
-    plain A B C
-    ∙ round-same binary64 false (A + B) C (a + b) P (mul-pos (down-pos e) (down-pos d)) (pow-pos 1074)
-    (add-mul A B P ∙ ap (λ (y : ℕ). y + B * P) u ∙ ap (λ (y : ℕ). a * C + y) v ∙ sym (add-mul a b C))
+    mul-right-comm (num y) (den x) P ∙ ap (λ (z : ℕ). z * den x) (value→cross y b P k) ∙ mul-assoc b (den y) (den x)
+    ∙ ap (λ (z : ℕ). b * z) (mul-comm (den y) (den x)) in
+    add-is binary64 x y (has-finite x a h) (has-finite y b k)
+    ∙ round-same binary64 false (A + B) C (a + b) P (mul-pos (den-pos x) (den-pos y)) (pow-pos 1074)
+    (add-mul A B P ∙ ap (λ (z : ℕ). z + B * P) u ∙ ap (λ (z : ℕ). a * C + z) v ∙ sym (add-mul a b C))
 
 twice-pos : (p : ℕ) → 0 < p → 0 < 2 * p
 twice-pos p h = omega arith
+
+pub twice-le : (b c : ℕ) → b ≤ c → 2 * b ≤ 2 * c
+twice-le b c h = omega arith
 
 half-is : (x : Float) (s : ℕ) → Has x s → mul binary64 half x ≡ round binary64 false s (2 * 2 ^ 1074)
 unfolding mul ofBits
@@ -137,11 +131,8 @@ lower x y a b s w = record {
   hx = s .hx;
   hy = w .has;
   order = w .least;
-  top = lt-of-le-of-lt (twice (w .at) b (w .most)) (s .top);
+  top = lt-of-le-of-lt (twice-le (w .at) b (w .most)) (s .top);
 }
-  where
-    twice : (c b : ℕ) → c ≤ b → 2 * c ≤ 2 * b
-    twice c b h = omega arith
 
 pub weaker : (x : Float) (a b c d : ℕ) → c ≤ a → b ≤ d → Within x a b → Within x c d
 weaker x a b c d h k w = record {

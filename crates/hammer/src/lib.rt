@@ -256,7 +256,8 @@ pub fn search_force(hammer: Hammer, eps_r: f64, c0: f64, c1: f64) -> Search
     Search { force, trials: 3 }
 }
 
-// The force alone. It lies from 0 to c0 / c1, rounded, whatever stiffness, exponent and memory are.
+// The force alone. For c0 and c1 finite and above 0, with c0 / c1 at most half the largest f64, it lies
+// from 0 to c0 / c1, rounded, whatever stiffness, exponent and memory are.
 pub fn contact_force(hammer: Hammer, eps_r: f64, c0: f64, c1: f64) -> f64
     ensures { λ r. ⌜ (r ≡ forceOf hammer «eps_r» c0 c1) × ForceBound c0 c1 r ⌝ }
 {

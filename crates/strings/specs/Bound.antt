@@ -42,10 +42,10 @@ module _ (c : Constants) (h : HammerState) (ds : List StringDesign) (v : List Re
   abbrev Under : ForceSum → Float → Type 0
   Under s b = T (nonneg (s .«force_sum»)) × T (nonneg b) × T (le (s .«force_sum») b)
 
-  keep : (i : ℕ) (d : StringDesign) (p : List Float) (s : ForceSum) (b : Float) → TopFits c h v i d p → Under s b
+  sums-keep : (i : ℕ) (d : StringDesign) (p : List Float) (s : ForceSum) (b : Float) → TopFits c h v i d p → Under s b
       → Under (pointForceOne c h v i d p s) (pointBoundOne c h v i d p b)
   unfolding summed
-  keep i d p s b l u =
+  sums-keep i d p s b l u =
       let r = getD v i unread in
       let f = contactAt c h d r p .force in
       let t = positivePart (topAt c h d r p) in
@@ -59,7 +59,7 @@ module _ (c : Constants) (h : HammerState) (ds : List StringDesign) (v : List Re
   pub force-sum-bound : TopsFit c h ds v w
       → T (le +0 (pointForce c h ds v w noForce .«force_sum»)) × T (le (pointForce c h ds v w noForce .«force_sum») (pointBound c h ds v w +0))
   force-sum-bound fit =
-      let u = fold-related sizeOf (TopFits c h v) Under (pointForceOne c h v) (pointBoundOne c h v) keep 0 ds w noForce +0 fit start in
+      let u = fold-related sizeOf (TopFits c h v) Under (pointForceOne c h v) (pointBoundOne c h v) sums-keep 0 ds w noForce +0 fit start in
       let f = pointForce c h ds v w noForce .«force_sum» in
       (zero-least f (u .0), u .2)
     where
