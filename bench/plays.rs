@@ -23,7 +23,7 @@ impl Plays {
             file: instrument.bytes(),
             words: console.words().to_vec(),
             console,
-            scratch: vec![0.0; 6 * instrument.string_count()],
+            scratch: vec![f64::NAN; instrument.string_count()],
             out: vec![0.0; samples],
             trace: vec![0.0; samples],
         }
@@ -32,6 +32,7 @@ impl Plays {
     pub fn ready(&mut self) {
         self.console.set_words(&self.words).expect("a session's words");
         self.console.work_mut().fill(0.0);
+        self.scratch.fill(f64::NAN);
     }
 
     /// Plays of `block`, each over the one before; it gives the forces of the last, which stands first in the output.

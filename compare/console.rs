@@ -95,6 +95,8 @@ pub struct Answer {
     pub samples: Vec<f64>,
     pub forces: Vec<f64>,
     pub key_contacts: Vec<usize>,
+    /// Scratch cells lent beyond one for each string.
+    pub spare: i64,
 }
 
 fn ok(text: String) -> Answer {
@@ -148,7 +150,7 @@ pub struct Console<'a> {
 
 impl<'a> Console<'a> {
     pub fn open(instrument: &'a Instrument) -> Console<'a> {
-        let lent = Lent { scratch: 6 * instrument.string_count(), trace: TRACE as usize, work: WORK as usize };
+        let lent = Lent { scratch: instrument.string_count(), trace: TRACE as usize, work: WORK as usize };
         Console { machine: Machine::open(instrument), renders: Renders::new(instrument), lent }
     }
 
@@ -213,7 +215,8 @@ impl<'a> Console<'a> {
             None => Answer { text: format!("bad line {at}: it is no call"), ..Answer::default() },
             Some(call) => {
                 let refusal = |number| Answer { text: refused(number), ..Answer::default() };
-                self.answer(call).unwrap_or_else(refusal)
+                let spare = self.lent.scratch as i64 - self.machine.strings as i64;
+                Answer { spare, ..self.answer(call).unwrap_or_else(refusal) }
             }
         })
     }

@@ -268,7 +268,7 @@ impl Writer<'_> {
         let m = machine.t.min(TRACE);
         let (what, enough, most) = pick(
             self.random,
-            &[("scratch", 6 * self.strings, SCRATCH), ("trace", m, TRACE), ("work", 5 * self.cells, WORK)],
+            &[("scratch", self.strings, SCRATCH), ("trace", m, TRACE), ("work", 5 * self.cells, WORK)],
         );
         let count = match self.random.below(10) {
             0 => 0,
@@ -286,7 +286,7 @@ impl Writer<'_> {
         let short = self.random.below(4) > 0;
         let (what, enough, all) = pick(
             self.random,
-            &[("scratch", 6 * self.strings, 6 * self.strings), ("trace", m, TRACE), ("work", 5 * self.cells, WORK)],
+            &[("scratch", self.strings, self.strings), ("trace", m, TRACE), ("work", 5 * self.cells, WORK)],
         );
         self.line(format!("lend {what} {}", enough.saturating_sub(short as u64)));
         if what == "trace" {
@@ -555,7 +555,7 @@ impl Writer<'_> {
     fn cue_between_plays(&mut self) {
         let (before, after) = (40 + self.random.below(40), 40 + self.random.below(40));
         let lines = [
-            format!("lend scratch {}", 6 * self.strings),
+            format!("lend scratch {}", self.strings),
             format!("lend trace {TRACE}"),
             format!("lend work {WORK}"),
             format!("play {before}"),

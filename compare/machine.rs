@@ -29,7 +29,7 @@ pub struct Edited {
 
 #[derive(Clone)]
 pub struct Machine {
-    strings: usize,
+    pub strings: usize,
     cells: usize,
     pub score: Vec<(u64, Event)>,
     pub t: u64,
@@ -62,7 +62,7 @@ impl Machine {
     }
 
     fn scratch_is_short(&self, lent: &Lent) -> (u8, bool) {
-        (9, lent.scratch < 6 * self.strings)
+        (9, lent.scratch < self.strings)
     }
 
     pub fn play(&mut self, lent: &Lent, m: u64) -> Result<(), u8> {

@@ -36,6 +36,9 @@ const REFUSED_FILES: u64 = 40;
 /// How often each refusal from 8 to 16 must come.
 const EACH_REFUSAL: u64 = 100;
 
+/// How often play and go must each be accepted with a scratch cell for each string, and refused for one fewer.
+const EACH_SCRATCH: u64 = 100;
+
 /// One of so many lists at least must have events of different kinds at one position, and one of as many an event that
 /// went ahead of one that was added before it.
 const ONE_TIED_IN: u64 = 3;
@@ -210,6 +213,8 @@ struct Counts {
     /// Lists with two keys that have contact samples, those that have them at a kept cue, and those in which a step back to
     /// one changes a key's count.
     counted: [u64; 3],
+    /// Plays and goes that were accepted with a scratch cell for each string, and that were refused for one fewer.
+    scratch: [u64; 4],
     felts: Felts,
 }
 
@@ -245,6 +250,15 @@ impl Counts {
         self.forces += answer.forces.len() as u64;
         self.contacts += answer.forces.iter().filter(|x| **x > 0.0).count() as u64;
         self.key_counts += answer.key_contacts.len() as u64;
+        self.scratch(call, answer);
+    }
+
+    fn scratch(&mut self, call: &str, answer: &Answer) {
+        let refusal = refusal_in(&answer.text);
+        let kinds = [("play", 0, None), ("go", 0, None), ("play", -1, Some(9)), ("go", -1, Some(9))];
+        for (count, kind) in self.scratch.iter_mut().zip(kinds) {
+            *count += (kind == (call, answer.spare, refusal)) as u64;
+        }
     }
 
     /// The counts of a whole list, whose last answers are those of its kept cues: a go and a state each.
@@ -290,6 +304,9 @@ impl Counts {
         println!("contacts {sums} sums and {key_counts} counts of keys compared, {} kept cues gone back to", self.cues);
         println!("         {several} of {lists} lists have two keys or more with a count above zero, {at_cues} at a kept cue");
         println!("         {changed} with a step back to a kept cue that changes a key's count");
+        let [plays, goes, short_plays, short_goes] = self.scratch;
+        println!("scratch  {plays} plays and {goes} goes with a cell for each string, all of them NaN");
+        println!("         {short_plays} plays and {short_goes} goes refused for one cell fewer");
         self.felts.report();
     }
 
@@ -302,7 +319,8 @@ impl Counts {
         few
     }
 
-    /// Whether each refusal from 8 to 16, ties, counts of two keys, and felts in quarters came often enough.
+    /// Whether each refusal from 8 to 16, scratch of just enough cells and of one fewer, ties, counts of two keys, and felts in
+    /// quarters came often enough.
     fn enough(&self) -> bool {
         let ([tied, ahead, _], [several, at_cues, changed]) = (self.tied, self.counted);
         let few_ties = self.few("ties", tied.min(ahead), ONE_TIED_IN);
@@ -311,7 +329,11 @@ impl Counts {
         if !rare.is_empty() {
             println!("too few of the refusals {rare:?}: each is wanted {EACH_REFUSAL} times");
         }
-        self.felts.enough() && rare.is_empty() && !few_ties && !few_counts
+        let few_scratch = self.scratch.iter().any(|count| *count < EACH_SCRATCH);
+        if few_scratch {
+            println!("too few calls at the least scratch: each kind is wanted {EACH_SCRATCH} times");
+        }
+        self.felts.enough() && rare.is_empty() && !few_ties && !few_counts && !few_scratch
     }
 }
 

@@ -25,7 +25,7 @@
             541 with one count for all keys, are none. Of gingerfile_adjust: there are not as many weights as keys, the instrument has
             no such key, or a weight that is to stand is NaN or outside 0 to 100
     8       work memory has fewer cells than gingerfile_read says
-    9       scratch has fewer cells than gingerfile_read says
+    9       scratch has fewer cells than gingerfile_read says, which is one for each string
    10       the trace is shorter than the output
    11       t + m, p or a position exceeds 2,000,000,000
    12       the score has 64 events
@@ -96,7 +96,7 @@ typedef struct {
     double fs;
     size_t keys;
     size_t strings;
-    /* GINGERFILE_WORDS, cells of work memory, cells of scratch. */
+    /* GINGERFILE_WORDS, cells of work memory, cells of scratch: one for each string. */
     size_t words;
     size_t work;
     size_t scratch;

@@ -2,11 +2,12 @@
    every call on the session's words, and on the same with the two events changed about. The first are accepted; the others are
    refused as 7, and nothing is written. */
 #include "gingerfile.h"
+#include <math.h>
 #include <stdio.h>
 #include <stdlib.h>
 #include <string.h>
 
-enum { LONGEST_FILE = 65536, LARGEST_WORK = 661920, LARGEST_SCRATCH = 192, COUNT = 4, KINDS = 4, EVENT = 4 };
+enum { LONGEST_FILE = 65536, LARGEST_WORK = 661920, LARGEST_SCRATCH = 32, COUNT = 4, KINDS = 4, EVENT = 4 };
 
 /* Kinds by the order in which they act, with a key that each may have. */
 static const uint64_t kinds[KINDS] = { GINGERFILE_RELEASE, GINGERFILE_HAND_DAMP, GINGERFILE_PEDAL, GINGERFILE_STRIKE };
@@ -52,6 +53,8 @@ static int calls_give(uint64_t refusal)
     memcpy(words_before, words, sizeof words);
     memcpy(work_before, work, sizeof work);
     for (int which = 0; which < 6; which++) {
+        for (int i = 0; i < LARGEST_SCRATCH; i++)
+            scratch[i] = NAN;
         for (int i = 0; i < COUNT; i++)
             out[i] = trace[i] = 0.5;
         check(call(which) == refusal, refusal == 0 ? "words in order are refused" : "words out of order are not refused as 7");

@@ -1,6 +1,7 @@
 /* A phrase with a cue and a step back: `phrase INSTRUMENT OUT.wav`. It strikes the instrument's keys one after the other, and
    follows the contact samples of all keys and of each. */
 #include "gingerfile.h"
+#include <math.h>
 #include <stdio.h>
 #include <stdlib.h>
 #include <string.h>
@@ -96,8 +97,10 @@ int main(int argc, char **argv)
     check(sizes.refusal == 0, "the instrument is refused");
     check(sizes.words == GINGERFILE_WORDS, "the library is of another version than the header");
     work = calloc(sizes.work, sizeof *work);
-    scratch = calloc(sizes.scratch, sizeof *scratch);
+    scratch = malloc(sizes.scratch * sizeof *scratch);
     check(work != NULL && scratch != NULL, "no memory");
+    for (size_t i = 0; i < sizes.scratch; i++)
+        scratch[i] = NAN; /* what stands in scratch decides nothing */
 
     /* one cell fewer than the instrument asks for is refused */
     check(gingerfile_open(file, length, words, GINGERFILE_WORDS, work, sizes.work - 1).refusal == 8, "8 was to come");

@@ -2,6 +2,7 @@
    `restart resume INSTRUMENT KEPT` takes them up and plays on; `restart through INSTRUMENT` does both in one process. What is
    played after the restart is printed: the last two print the same. */
 #include "gingerfile.h"
+#include <math.h>
 #include <stdio.h>
 #include <stdlib.h>
 #include <string.h>
@@ -105,8 +106,10 @@ int main(int argc, char **argv)
     sizes = gingerfile_read(file, length);
     check(sizes.refusal == 0 && sizes.words == GINGERFILE_WORDS, "the instrument is refused");
     work = calloc(sizes.work, sizeof *work);
-    scratch = calloc(sizes.scratch, sizeof *scratch);
+    scratch = malloc(sizes.scratch * sizeof *scratch);
     check(work != NULL && scratch != NULL, "no memory");
+    for (size_t i = 0; i < sizes.scratch; i++)
+        scratch[i] = NAN; /* what stands in scratch decides nothing */
 
     if (!resumes)
         before();

@@ -5,6 +5,7 @@
    Each call is the first that its process makes of the library, so that the C library's way of finding memcpy is in it. */
 #define _GNU_SOURCE
 #include "gingerfile.h"
+#include <math.h>
 #include <pthread.h>
 #include <signal.h>
 #include <stdio.h>
@@ -22,7 +23,7 @@ static struct {
     uint8_t file[4096];
     size_t length, key_count, work_length, scratch_length, touched;
     uint64_t words[GINGERFILE_WORDS], refusal;
-    double work[5 * 32 * (2 * 2000 + 2 * 66 + 5)], scratch[6 * 32], out[64], trace[64];
+    double work[5 * 32 * (2 * 2000 + 2 * 66 + 5)], scratch[32], out[64], trace[64];
     double x[640], taps[127], decimated[10], weights[16];
     uint8_t keys[16], adjusted[GINGERFILE_LONGEST_FILE];
 } *lent;
@@ -120,6 +121,8 @@ static void prepare(void)
     const gingerfile_sizes sizes = gingerfile_read(lent->file, lent->length);
     lent->work_length = sizes.work;
     lent->scratch_length = sizes.scratch;
+    for (size_t i = 0; i < sizes.scratch; i++)
+        lent->scratch[i] = NAN;
     call_open();
     accepted("open");
     gingerfile_insert(SESSION, 0, GINGERFILE_STRIKE, 40, 3.0);

@@ -139,7 +139,8 @@ fn bare_adjust() -> u64 {
 fn bare_play() -> Vec<u64> {
     let console = opened().unwrap();
     let (file, mut words, mut work) = (console.file().to_vec(), console.words().to_vec(), console.work().to_vec());
-    let (mut scratch, mut out, mut trace) = (vec![0.0; 6 * 32], vec![0.0; SAMPLES], vec![0.0; SAMPLES]);
+    let strings = usize::from(SHORT.keys) * usize::from(SHORT.strings);
+    let (mut scratch, mut out, mut trace) = (vec![f64::NAN; strings], vec![0.0; SAMPLES], vec![0.0; SAMPLES]);
     let report = unsafe {
         gingerfile_play(
             file.as_ptr(),

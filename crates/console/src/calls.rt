@@ -16,6 +16,11 @@ use text::script::Command;
 use text::script::Fault;
 use text::script::Kind;
 
+// What stands in scratch decides nothing, so none is kept from call to call: each has its own, of NaN.
+fn unset_scratch() -> [f64; 256] {
+    [0.0 / 0.0; 256]
+}
+
 // A play of m samples gives them, and its forces.
 fn played(turn: Turn, answer: Answer, m: usize) -> Turn {
     let mut next = turn;
@@ -34,13 +39,13 @@ fn play_into(
     instrument: Instrument,
     console: Console,
     work: &mut [f64],
-    scratch: &mut [f64],
     out: &mut [f64],
     trace: &mut [f64],
 ) -> Turn {
     let lent = console.lent;
     let cells = fitting(lent.work, work);
-    let s = fitting(lent.scratch, scratch);
+    let mut scratch = unset_scratch();
+    let s = fitting(lent.scratch, &scratch);
     let outcome = session::play(
         instrument,
         console.session,
@@ -60,20 +65,19 @@ fn play_part(
     console: Console,
     m: u64,
     work: &mut [f64],
-    scratch: &mut [f64],
     out: &mut [f64],
     trace: &mut [f64],
 ) -> Turn {
     let lent = console.lent;
     let session = console.session;
     if (lent.trace as u64) < m {
-        return play_into(instrument, console, work, scratch, out, &mut trace[..0]);
+        return play_into(instrument, console, work, out, &mut trace[..0]);
     }
     let end = wrapping_add_u64(session.t, m);
     if END < end {
-        return go(instrument, console, end, work, scratch);
+        return go(instrument, console, end, work);
     }
-    play_into(instrument, console, work, scratch, out, trace)
+    play_into(instrument, console, work, out, trace)
 }
 
 fn play(
@@ -81,7 +85,6 @@ fn play(
     console: Console,
     m: u64,
     work: &mut [f64],
-    scratch: &mut [f64],
     out: &mut [f64],
     trace: &mut [f64],
 ) -> Turn {
@@ -89,19 +92,12 @@ fn play(
         return replied(console, Response::Bad(Fault::TooLarge));
     }
     if (out.len() as u64) < m {
-        return play_part(instrument, console, m, work, scratch, out, trace);
+        return play_part(instrument, console, m, work, out, trace);
     }
     let lent = console.lent;
     let n = fitting(m as usize, out);
     let k = fitting(lent.trace, trace);
-    play_into(
-        instrument,
-        console,
-        work,
-        scratch,
-        &mut out[..n],
-        &mut trace[..k],
-    )
+    play_into(instrument, console, work, &mut out[..n], &mut trace[..k])
 }
 
 fn cue(instrument: Instrument, console: Console, work: &mut [f64]) -> Turn {
@@ -113,16 +109,11 @@ fn cue(instrument: Instrument, console: Console, work: &mut [f64]) -> Turn {
     )
 }
 
-fn go(
-    instrument: Instrument,
-    console: Console,
-    p: u64,
-    work: &mut [f64],
-    scratch: &mut [f64],
-) -> Turn {
+fn go(instrument: Instrument, console: Console, p: u64, work: &mut [f64]) -> Turn {
     let lent = console.lent;
     let cells = fitting(lent.work, work);
-    let s = fitting(lent.scratch, scratch);
+    let mut scratch = unset_scratch();
+    let s = fitting(lent.scratch, &scratch);
     let outcome = session::go(
         instrument,
         console.session,
@@ -179,16 +170,15 @@ pub fn call(
     console: Console,
     command: Command,
     work: &mut [f64],
-    scratch: &mut [f64],
     out: &mut [f64],
     trace: &mut [f64],
 ) -> Turn {
     let kind = command.kind;
     let number = command.number;
     match kind {
-        Kind::Play => play(instrument, console, number, work, scratch, out, trace),
+        Kind::Play => play(instrument, console, number, work, out, trace),
         Kind::Cue => cue(instrument, console, work),
-        Kind::Go => go(instrument, console, number, work, scratch),
+        Kind::Go => go(instrument, console, number, work),
         Kind::Remove => remove(instrument, console, number, work),
         _ => insert(instrument, console, command, work),
     }

@@ -23,6 +23,9 @@ use text::script::Kind;
 // The longest play, and the trace that a script can have lent.
 pub const LONGEST: u64 = 65536;
 
+// The most scratch that a script can have lent.
+const MOST_SCRATCH: u64 = 256;
+
 // How many cells of each buffer a call gets. A trace of more cells than the program has is lent as all that it has: no part of a play is longer.
 pub struct Lent {
     pub scratch: usize,
@@ -75,19 +78,10 @@ fn called(lent: Lent, outcome: Outcome) -> Turn {
     replied(Console { session, lent }, Response::Called(answer))
 }
 
-// 6S; no instrument has more than 32 strings.
-fn scratch_cells(instrument: Instrument) -> usize {
-    if instrument.string_count <= 32 {
-        6 * instrument.string_count
-    } else {
-        0
-    }
-}
-
-// At the start: 6S scratch cells, all of the trace, all of the work memory.
+// At the start: the scratch cells that play and go ask for, all of the trace, all of the work memory.
 pub fn open(instrument: Instrument, work: &mut [f64]) -> Turn {
     let lent = Lent {
-        scratch: scratch_cells(instrument),
+        scratch: session_record::scratch_cells(instrument),
         trace: LONGEST as usize,
         work: work.len(),
     };
@@ -138,13 +132,12 @@ fn lend(console: Console, kind: Kind, n: u64, cells: u64) -> Turn {
     replied(Console { session, lent }, Response::Done)
 }
 
-// One line's command. `work`, `scratch`, `out` and `trace` are all that the program has.
+// One line's command. `work`, `out` and `trace` are all that the program has.
 pub fn answer(
     instrument: Instrument,
     console: Console,
     command: Command,
     work: &mut [f64],
-    scratch: &mut [f64],
     out: &mut [f64],
     trace: &mut [f64],
 ) -> Turn {
@@ -154,9 +147,9 @@ pub fn answer(
         Kind::Bad(fault) => replied(console, Response::Bad(fault)),
         Kind::Energies => replied(console, Response::Energies),
         Kind::State => replied(console, Response::State),
-        Kind::LendScratch => lend(console, kind, command.number, scratch.len() as u64),
+        Kind::LendScratch => lend(console, kind, command.number, MOST_SCRATCH),
         Kind::LendTrace => lend(console, kind, command.number, LONGEST),
         Kind::LendWork => lend(console, kind, command.number, work.len() as u64),
-        _ => calls::call(instrument, console, command, work, scratch, out, trace),
+        _ => calls::call(instrument, console, command, work, out, trace),
     }
 }

@@ -14,10 +14,9 @@ use Rattle.counting.specs.Every.{and-left}
 use Rattle.counting.specs.Meets.{meets-refused, meets-accepted}
 use Rattle.instrument.specs.declared.Instrument.{Instrument}
 use Rattle.instrument_file.specs.declared.ReadAnswer.{ReadAnswer}
-use Rattle.instrument_file.specs.File.{readOf, accepted}
-use Rattle.instrument.specs.ValidLaws.{valid-counts}
+use Rattle.instrument_file.specs.File.{readOf}
 use Rattle.instrument.specs.Work.{countedPart}
-use Rattle.instrument_encoding.specs.Accepted.{accepted-valid}
+use Rattle.machine.specs.Refusals.{scratchCells}
 use Rattle.instrument_writer.specs.declared.WriteAnswer.{WriteAnswer}
 use Rattle.instrument_writer.specs.Write.{WriteMeets}
 use Rattle.weights.specs.declared.Adjusted.{Adjusted}
@@ -39,17 +38,12 @@ use Rattle.gingerfile.specs.Crossing.{refusedBy, reportOf, sizesOf, hand
 -- ---- the file
 
 module _ (f : List ℕ) (g : ReadAnswer) (eg : g ≡ readOf f) where
-  pub few-strings : g .refusal ≡ 0 → g .instrument .«string_count» ≤ 32
-  few-strings h =
-      let e : readOf f ≡ accepted (g .instrument) = sym eg ∙ ap (λ (n : ℕ). record { refusal = n; instrument = g .instrument }) h in
-      valid-counts (g .instrument) (accepted-valid f (g .instrument) e) .fewStrings
-
   pub sizes-refused : (n : ℕ) (x : Float) → (g .refusal ≡ 0 → ⊥) → n ≡ g .refusal → x ≡ ofBits binary64 0
       → record { refusal = n; fs = x; keys = 0; strings = 0; words = 0; work = 0; scratch = 0 } ≡ sizesOf (readOf f)
   unfolding sizesOf
   sizes-refused n x h e k = rw (← eg, ne-eqb (g .refusal) 0 h, e, k)
 
-  pub sizes-given : (work : ℕ) → g .refusal ≡ 0 → work ≡ 5 * countedPart (g .instrument)
+  pub sizes-given : (work scratch : ℕ) → g .refusal ≡ 0 → work ≡ 5 * countedPart (g .instrument) → scratch ≡ scratchCells (g .instrument)
       → record {
         refusal = 0;
         fs = g .instrument .common .fs;
@@ -57,10 +51,10 @@ module _ (f : List ℕ) (g : ReadAnswer) (eg : g ≡ readOf f) where
         strings = g .instrument .«string_count»;
         words = sessionSize;
         work = work;
-        scratch = 6 * g .instrument .«string_count»;
+        scratch = scratch;
       } ≡ sizesOf (readOf f)
   unfolding sizesOf
-  sizes-given work h e = rw (← eg, eq-eqb (g .refusal) 0 h, e)
+  sizes-given work scratch h e k = rw (← eg, eq-eqb (g .refusal) 0 h, e, k)
 
 -- ---- the number that refuses what is handed
 

@@ -10,6 +10,7 @@ use Rattle.instrument.specs.declared.Instrument.{Instrument}
 use Rattle.instrument_file.specs.declared.ReadAnswer.{ReadAnswer}
 use Rattle.instrument_file.specs.File.{readOf}
 use Rattle.instrument.specs.Work.{countedPart}
+use Rattle.machine.specs.Refusals.{scratchCells}
 use Rattle.session_record.specs.declared.Session.{Session}
 use Rattle.session.specs.declared.Answer.{Answer}
 use Rattle.session.specs.declared.Answer.the-variants.{Refused, Opened, Played, Cued, Went, Edited}
@@ -47,7 +48,7 @@ sizesOf given =
       strings = given .instrument .«string_count»;
       words = sessionSize;
       work = 5 * countedPart (given .instrument);
-      scratch = 6 * given .instrument .«string_count»;
+      scratch = scratchCells (given .instrument);
     })
     (record { refusal = given .refusal; fs = ofBits binary64 0; keys = 0; strings = 0; words = 0; work = 0; scratch = 0 })
 

@@ -174,6 +174,7 @@ pub extern "C" fn gingerfile_read(file: &[u8]) -> Sizes
         };
     }
     let work = instrument::work_cells(instrument);
+    let scratch = session_record::scratch_cells(instrument);
     Sizes {
         refusal: 0,
         fs: common.fs,
@@ -181,7 +182,7 @@ pub extern "C" fn gingerfile_read(file: &[u8]) -> Sizes
         strings: instrument.string_count,
         words: session_words::LENGTH,
         work,
-        scratch: 6 * instrument.string_count,
+        scratch,
     }
 }
 

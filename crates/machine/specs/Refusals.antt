@@ -2,7 +2,7 @@
 -- contracts share them. 0 is no refusal. Definitions only: assumes nothing.
 use mathlib.Core.Bool.{Bool, cond, not}
 use mathlib.Core.List.{List}
-use Prim.Native.Nat.{ℕ, zero, suc, _+_, _-_, _*_}
+use Prim.Native.Nat.{ℕ, zero, suc, _+_, _-_}
 use lib.Dec.{leb, ltb}
 use Rattle.instrument.specs.declared.Instrument.{Instrument}
 use Rattle.score.specs.declared.TimedEvent.{TimedEvent}
@@ -17,9 +17,9 @@ abbrev pub orElse : ℕ → ℕ → ℕ
 orElse zero b = b
 orElse (suc a) b = suc a
 
--- 9. "Scratch (play, go) has fewer than 6S cells."
+-- 9. "Scratch (play, go) has fewer than 6S cells", and from document 02, W7: "refusal 9 now tests S"
 unfoldable pub scratchCells : Instrument → ℕ
-scratchCells i = 6 * i .«string_count»
+scratchCells i = i .«string_count»
 
 abbrev pub scratchTest : Instrument → ℕ → ℕ
 scratchTest i scratch = refuseIf (ltb scratch (scratchCells i)) 9

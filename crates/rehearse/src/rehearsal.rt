@@ -120,7 +120,6 @@ fn call_part(
     r: Rehearsal,
     places: Places,
     work: &mut [f64; 662000],
-    scratch: &mut [f64; 256],
     out: &mut [f64; 8192],
     trace: &mut [f64; 8192],
     answers: &mut [u8; 16384],
@@ -129,7 +128,7 @@ fn call_part(
     let before = r.console;
     let task = r.task;
     let command = parts::next_part(before, task, PART);
-    let turn = console::answer(instrument, before, command, work, scratch, out, trace);
+    let turn = console::answer(instrument, before, command, work, out, trace);
     let console = turn.console;
     let session = console.session;
     let stored = store(r.progress, places, turn, out, trace, bytes);
@@ -187,7 +186,6 @@ fn turn(
     r: Rehearsal,
     places: Places,
     work: &mut [f64; 662000],
-    scratch: &mut [f64; 256],
     out: &mut [f64; 8192],
     trace: &mut [f64; 8192],
     input: &mut [u8; 65536],
@@ -198,17 +196,7 @@ fn turn(
     if task.is_done {
         return next_line(r, input, answers);
     }
-    call_part(
-        instrument,
-        r,
-        places,
-        work,
-        scratch,
-        out,
-        trace,
-        answers,
-        bytes,
-    )
+    call_part(instrument, r, places, work, out, trace, answers, bytes)
 }
 
 // Whether the rehearsal is over: nothing is left of the last line, and no other comes.
@@ -224,7 +212,6 @@ fn rehearse_lines(
     start: Rehearsal,
     places: Places,
     work: &mut [f64; 662000],
-    scratch: &mut [f64; 256],
     out: &mut [f64; 8192],
     trace: &mut [f64; 8192],
     input: &mut [u8; 65536],
@@ -241,7 +228,6 @@ fn rehearse_lines(
             r,
             places,
             work,
-            scratch,
             out,
             trace,
             input,
@@ -301,7 +287,7 @@ fn finish(p: Progress, answers: &[u8; 16384]) -> Progress {
     progress::flush(p, answers)
 }
 
-// The program's memory: document 01's largest instrument has five parts of 132,384 cells, and six scratch cells for each of 32 strings. All answers are out at the end.
+// The program's memory: document 01's largest instrument has five parts of 132,384 cells. All answers are out at the end.
 pub fn play_script(
     instrument: Instrument,
     begun: Progress,
@@ -309,7 +295,6 @@ pub fn play_script(
     input: &mut [u8; 65536],
 ) -> Progress {
     let mut work = [0.0; 662000];
-    let mut scratch = [0.0; 256];
     let mut out = [0.0; 8192];
     let mut trace = [0.0; 8192];
     let mut answers = [0u8; 16384];
@@ -320,7 +305,6 @@ pub fn play_script(
         opened,
         places,
         &mut work,
-        &mut scratch,
         &mut out,
         &mut trace,
         input,

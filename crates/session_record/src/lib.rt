@@ -105,12 +105,11 @@ pub fn record_refusal(instrument: Instrument, session: Session, cells: usize) ->
     RECORD
 }
 
-// How many scratch cells play and go ask.
-fn scratch_cells(instrument: Instrument) -> usize
-    requires { ⌜ valid instrument ≡ true ⌝ }
+// How many scratch cells play and go ask: what a player must lend is what refusal 9 tests.
+pub fn scratch_cells(instrument: Instrument) -> usize
     ensures { λ r. ⌜ r ≡ scratchCells instrument ⌝ }
 {
-    6 * instrument.string_count
+    instrument.string_count
 }
 
 pub fn play_refusal(

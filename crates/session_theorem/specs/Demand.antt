@@ -75,7 +75,7 @@ opened-stands i work work′ r h e =
         score = rw here refl;
         position = rw here refl;
         cues = λ f. rw here (ap (count f) (fresh-keeps silentPiano));
-        now = rw (here, front-now (partCells i) (silence i .cells) work work′ (a .1) (silent-length i (fine .0)) (fine .1))
+        now = rw (here, front-now (partCells i) (silence i .cells) _ work′ (a .1) (silent-length i (fine .0)))
             (ap (λ q. record { piano = q; cells = silence i .cells }) (silent-piano i) ∙ sym (render-zero i []));
         held = λ j l k. true-or-false _ (rw here at k) (fresh-empty silentPiano j l);
       };

@@ -7,4 +7,5 @@ pub mod Demand
 pub mod Parts
 pub mod PastKeys
 pub mod Past
+pub mod Scratch
 pub mod Beyond

@@ -7,6 +7,7 @@ use native.Mathlib.Omega.{arith}
 use native.Mathlib.Nat.{zero-add}
 use lib.Ieee.{Float}
 use lib.ListN.{length, take, drop}
+use lib.Seq.{take-at}
 use Rattle.cells.specs.Splice.{part, splice, length-splice, part-splice, drop-past, part-past, part-before}
 use Rattle.instrument.specs.declared.Instrument.{Instrument}
 use Rattle.instrument.specs.Valid.{valid}
@@ -23,11 +24,12 @@ pub run-cells : (i : Instrument) → valid i ≡ true → (score : List TimedEve
     → length (run i score t n st .cells) ≡ partCells i
 run-cells i ok score t n st e = run-length i score t n st (omega (arith, cells-are i ok, e)) ∙ e
 
+-- what stands first in memory or trace
+pub front-now : (w : ℕ) (cells rest work′ : List Float) → work′ ≡ cells ++ rest → length cells ≡ w → take w work′ ≡ cells
+front-now w cells rest work′ e size = ap (take w) e ∙ take-at cells rest w size
+
 -- the first part anew
 module _ (w : ℕ) (cells work work′ : List Float) (e : work′ ≡ cells ++ drop w work) (size : length cells ≡ w) (room : 5 * w ≤ length work) where
-  pub front-now : take w work′ ≡ cells
-  front-now = ap (take w) e ∙ part-splice 0 w w cells work (zero-add w) size (omega arith)
-
   pub front-cue : (j : ℕ) → part ((j + 1) * w) w work′ ≡ part ((j + 1) * w) w work
   front-cue j = ap (part ((j + 1) * w) w) e ∙ part-past 0 w w cells work (zero-add w) size (omega arith) ((j + 1) * w) w (slot-past j w)
 

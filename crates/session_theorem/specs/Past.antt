@@ -10,7 +10,7 @@ use lib.Dec.{eqb, leb, ltb}
 use borrow.Author.Tests.{eqb-true, eqb-false, ltb-true}
 use lib.Ieee.{Float}
 use lib.ListN.{length, take, drop, getD, set, length-set, length-map, List·getD-map}
-use lib.Seq.{take-at, length-take-le, getD-set-other}
+use lib.Seq.{length-take-le, getD-set-other}
 use Rattle.cells.specs.Splice.{part, splice}
 use Rattle.counting.specs.Meets.{Meets}
 use Rattle.instrument.specs.declared.Instrument.{Instrument}
@@ -185,7 +185,7 @@ module _ (w : ℕ) (cues : List Cue) (work work′ left left′ : List Float) (m
       let e′ : left′ ≡ new ++ drop w work′ = h ∙ ap (λ l. l ++ drop w work′) (sym same) in
       record {
         cells = front-length w new work left e size room ∙ m .cells ∙ sym (front-length w new work′ left′ e′ size room′);
-        now = front-now w new work left e size room ∙ sym (front-now w new work′ left′ e′ size room′);
+        now = front-now w new _ left e size ∙ sym (front-now w new _ left′ e′ size);
         held = λ j d l k. front-cue w new work left e size room j ∙ m .held j d l k ∙ sym (front-cue w new work′ left′ e′ size room′ j);
       }
 
@@ -232,7 +232,7 @@ pub record SameOutcome (i : Instrument) (r : Outcome) (work out trace : List Flo
   pub after : Alike i (r .session) work (r′ .session) work′
 
 -- a call by its number, the same for both: either both are refused or both are accepted
-by-number : {R R′ : ℕ → Type 0} {A A′ P : Type 0} (n n′ : ℕ) → Meets n R A → Meets n′ R′ A′ → n ≡ n′ → (n ≡ n′ → R n → R′ n′ → P) → (n ≡ 0 → A → A′ → P) → P
+pub by-number : {R R′ : ℕ → Type 0} {A A′ P : Type 0} (n n′ : ℕ) → Meets n R A → Meets n′ R′ A′ → n ≡ n′ → (n ≡ n′ → R n → R′ n′ → P) → (n ≡ 0 → A → A′ → P) → P
 by-number zero n′ h h′ e refuses accepts = accepts refl (h .accepts refl) (h′ .accepts (sym e))
 by-number (suc n) n′ h h′ e refuses accepts = refuses e (h .refuses (λ z. omega arith)) (h′ .refuses (λ z. omega (arith, z, e)))
 
@@ -276,11 +276,10 @@ module _ (i : Instrument) (s : Session) (work : List Float) (s′ : Session) (wo
 
       -- the first k cells of either trace
       traced : take (length pushed) trace₁ ≡ pushed
-      traced = ap (take (length pushed)) (d .pushes) ∙ take-at pushed (drop (length pushed) trace) (length pushed) refl
+      traced = front-now (length pushed) pushed _ trace₁ (d .pushes) refl
 
       traced′ : take (length pushed) trace₂ ≡ pushed
-      traced′ =
-          ap (take (length pushed)) (d′ .pushes ∙ ap (λ l. l ++ drop (length l) trace₀) same-pushed) ∙ take-at pushed (drop (length pushed) trace₀) (length pushed) refl
+      traced′ = front-now (length pushed) pushed _ trace₂ (d′ .pushes ∙ ap (λ l. l ++ drop (length l) trace₀) same-pushed) refl
 
       play-accepted : SameOutcome i r left out₁ trace₁ r′ left′ out₂ trace₂
       play-accepted =

@@ -10,7 +10,7 @@ use lib.Dec.{eqb, leb, ltb}
 use borrow.Author.Tests.{eqb-true, eqb-false, leb-true}
 use lib.Ieee.{Float}
 use lib.ListN.{length, take, drop, getD, set, length-set, length-map, List·getD-map}
-use lib.Seq.{take-at, drop-at, length-take-le, getD-set-same, getD-set-other}
+use lib.Seq.{drop-at, length-take-le, getD-set-same, getD-set-other}
 use Rattle.cells.specs.Splice.{part}
 use Rattle.instrument.specs.declared.Instrument.{Instrument}
 use Rattle.instrument.specs.Work.{partCells}
@@ -89,7 +89,7 @@ module _ (i : Instrument) (s s′ : Session) (work work′ : List Float) (p p′
           score = rw (here, same-score) (g .follows .score);
           position = rw here refl;
           cues = rw (here, same-cues) (g .follows .cues);
-          now = rw (here, front-now (partCells i) (st .cells) work work′ memory size (g .room), same-score) right;
+          now = rw (here, front-now (partCells i) (st .cells) _ work′ memory size, same-score) right;
           held = λ j l k.
               rw (here, front-cue (partCells i) (st .cells) work work′ memory size (g .room) j, same-score) (kept j l (rw here at k));
         };
@@ -145,8 +145,7 @@ module _ (i : Instrument) (s : Session) (work : List Float) (p : Machine) (g : S
       play-reply : replyOf (r .answer) out′ trace′
           ≡ Reply.played (length (blockForces i (p .score) (p .t) m)) (renderContacts i (p .score) (p .t + m)) (blockSamples i (p .score) (p .t) m) (blockForces i (p .score) (p .t) m)
       play-reply =
-          let k : take (length pushed) trace′ ≡ pushed = ap (take (length pushed)) (d .pushes) ∙ take-at pushed (drop (length pushed) trace) (length pushed) refl in
-          rw (d .answer, k, counted-is, pushed-is, sounded-is)
+          rw (d .answer, front-now (length pushed) pushed _ trace′ (d .pushes) refl, counted-is, pushed-is, sounded-is)
 
     play-step : Stands i (r .session) work′ (does i p playing .0) × (replyOf (r .answer) out′ trace′ ≡ does i p playing .1)
     unfolding does
@@ -311,7 +310,7 @@ module _ (i : Instrument) (s : Session) (work : List Float) (p : Machine) (g : S
             score = rw (d .session) new-score;
             position = rw (d .session) t-same;
             cues = λ t. rw (d .session) (ap (count t) (kept-drop q (s .cues)) ∙ same-upTo q (keptBy s) (p .cues) (f .cues) t);
-            now = rw (d .session, front-now (partCells i) (heldAt i s work t′ .cells) work work′ (d .memory) size′ (g .room)) (held-is ∙ ap (renderState i score′) t-same);
+            now = rw (d .session, front-now (partCells i) (heldAt i s work t′ .cells) _ work′ (d .memory) size′) (held-is ∙ ap (renderState i score′) t-same);
             held = λ j l k.
                 rw (d .session, front-cue (partCells i) (heldAt i s work t′ .cells) work work′ (d .memory) size′ (g .room) j) (slot-held j l (rw (d .session) at k));
           };

@@ -32,19 +32,16 @@ fn say_cells(n: u64, before: u64, after: u64) {
     }
 }
 
-fn try_play(instrument: Instrument, session: Session, work: &mut [f64]) {
-    let mut scratch = [0.0; 192];
+// The least scratch that the instrument's 22 strings ask for, with no number in it.
+fn unset_scratch() -> [f64; 22] {
+    [0.0 / 0.0; 22]
+}
+
+fn try_play(instrument: Instrument, session: Session, work: &mut [f64], scratch: &mut [f64]) {
     let mut out = [0.5; 4];
     let mut trace = [0.5; 4];
     let before = digest(work);
-    let done = session::play(
-        instrument,
-        session,
-        work,
-        &mut scratch,
-        &mut out,
-        &mut trace,
-    );
+    let done = session::play(instrument, session, work, scratch, &mut out, &mut trace);
     let answer = done.answer;
     let n = number_of(answer);
     say(b" play ", n);
@@ -68,10 +65,9 @@ fn try_cue(instrument: Instrument, session: Session, work: &mut [f64]) {
     say_cells(n, before, digest(work));
 }
 
-fn try_go(instrument: Instrument, session: Session, work: &mut [f64]) {
-    let mut scratch = [0.0; 192];
+fn try_go(instrument: Instrument, session: Session, work: &mut [f64], scratch: &mut [f64]) {
     let before = digest(work);
-    let done = session::go(instrument, session, work, &mut scratch, 3);
+    let done = session::go(instrument, session, work, scratch, 3);
     let answer = done.answer;
     let n = number_of(answer);
     say(b" go ", n);
@@ -108,14 +104,25 @@ fn try_energies(instrument: Instrument, session: Session, work: &[f64]) {
 // Every call gets the same session, and the memory that the others left.
 fn try_calls(name: &[u8], instrument: Instrument, session: Session) {
     let mut work = [0.25; 25310];
+    let mut scratch = unset_scratch();
     io::write_all(STDOUT_FILENO, name);
     io::write_all(STDOUT_FILENO, b":");
     try_energies(instrument, session, &work);
-    try_play(instrument, session, &mut work);
+    try_play(instrument, session, &mut work, &mut scratch);
     try_cue(instrument, session, &mut work);
-    try_go(instrument, session, &mut work);
+    try_go(instrument, session, &mut work, &mut scratch);
     try_insert(instrument, session, &mut work);
     try_remove(instrument, session, &mut work);
+    io::write_all(STDOUT_FILENO, b"\n");
+}
+
+// Scratch is asked for by the two calls that render.
+fn try_short_scratch(i: Instrument, s: Session) {
+    let mut work = [0.25; 25310];
+    let mut scratch = [0.0 / 0.0; 21];
+    io::write_all(STDOUT_FILENO, b"21 scratch cells:");
+    try_play(i, s, &mut work, &mut scratch);
+    try_go(i, s, &mut work, &mut scratch);
     io::write_all(STDOUT_FILENO, b"\n");
 }
 
@@ -294,7 +301,7 @@ fn try_right(i: Instrument, s: Session) {
 // A session at 10 that keeps nothing.
 fn right_session(i: Instrument) -> Session {
     let mut work = [0.0; 25310];
-    let mut scratch = [0.0; 192];
+    let mut scratch = unset_scratch();
     let opened = session::open(i, &mut work);
     let there = session::go(i, opened.session, &mut work, &mut scratch, 10);
     there.session
@@ -307,6 +314,7 @@ fn main() {
     let i = answer.instrument;
     let s = right_session(i);
     try_right(i, s);
+    try_short_scratch(i, s);
     try_scores(i, s);
     try_orders(i, s);
     try_pianos(i, s);

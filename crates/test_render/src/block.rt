@@ -88,6 +88,19 @@ fn unpack(
     n
 }
 
+// How many cells the renderer asks of scratch, as far as they are lent: one for each string.
+fn strings(file: &[u8], lent: usize) -> usize
+    ensures { λ r. ⌜ r ≤ lent ⌝ }
+{
+    let answer = instrument_file::read(file);
+    let instrument = answer.instrument;
+    if instrument.string_count < lent {
+        instrument.string_count
+    } else {
+        lent
+    }
+}
+
 // The first n events of four lists.
 fn render_events(
     file: &[u8],
@@ -107,7 +120,8 @@ fn render_events(
     requires { ⌜ n ≤ length (now keys) ⌝ }
     requires { ⌜ n ≤ length (now velocities) ⌝ }
 {
-    let mut scratch = [0.0; 192];
+    let mut scratch = [0.0 / 0.0; 32];
+    let s = strings(file, 32);
     render_block(
         file,
         &positions[..n],
@@ -117,7 +131,7 @@ fn render_events(
         small,
         t,
         part,
-        &mut scratch,
+        &mut scratch[..s],
         out,
         trace,
     )

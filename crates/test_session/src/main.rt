@@ -74,7 +74,6 @@ fn call(
     r: Replay,
     line: &[u8],
     work: &mut [f64],
-    scratch: &mut [f64],
     out: &mut [f64],
     trace: &mut [f64],
     text: &mut [u8],
@@ -82,7 +81,7 @@ fn call(
     let instrument = r.instrument;
     let command = text::script::command_of(line);
     let before = r.console;
-    let turn = console::answer(instrument, before, command, work, scratch, out, trace);
+    let turn = console::answer(instrument, before, command, work, out, trace);
     let console = turn.console;
     let reply = turn.reply;
     let length = console::put_reply(text, r.line, reply, instrument, console, work);
@@ -101,7 +100,6 @@ fn replayed(
     r: Replay,
     line: &[u8],
     work: &mut [f64; 662000],
-    scratch: &mut [f64; 256],
     out: &mut [f64; 65536],
     trace: &mut [f64; 65536],
     text: &mut [u8; 1024],
@@ -110,7 +108,7 @@ fn replayed(
     let record = reading::record_of(line);
     match record {
         Record::Instrument => open_digits(reading::stored_in(line), file, work, trace, text),
-        Record::Line => call(r, reading::stored_in(line), work, scratch, out, trace, text),
+        Record::Line => call(r, reading::stored_in(line), work, out, trace, text),
         _ => r,
     }
 }
@@ -194,14 +192,13 @@ fn replay_line(
     s: State,
     line: &[u8],
     work: &mut [f64; 662000],
-    scratch: &mut [f64; 256],
     out: &mut [f64; 65536],
     trace: &mut [f64; 65536],
     text: &mut [u8; 1024],
     file: &mut [u8; 4096],
 ) -> State {
     let before = s.replay;
-    let replay = replayed(before, line, work, scratch, out, trace, text, file);
+    let replay = replayed(before, line, work, out, trace, text, file);
     let tally = judge_after(s.tally, replay, line, text, out, trace);
     State { replay, tally }
 }
@@ -226,7 +223,6 @@ fn replay_next(
     reader: Reader,
     input: &mut [u8; 65536],
     work: &mut [f64; 662000],
-    scratch: &mut [f64; 256],
     out: &mut [f64; 65536],
     trace: &mut [f64; 65536],
     text: &mut [u8; 1024],
@@ -243,7 +239,7 @@ fn replay_next(
         };
     }
     let line = lines::text_of(input, next);
-    let state = replay_line(s, line, work, scratch, out, trace, text, file);
+    let state = replay_line(s, line, work, out, trace, text, file);
     Read {
         state,
         reader: after,
@@ -255,7 +251,6 @@ fn replay_all(
     start: State,
     input: &mut [u8; 65536],
     work: &mut [f64; 662000],
-    scratch: &mut [f64; 256],
     out: &mut [f64; 65536],
     trace: &mut [f64; 65536],
     text: &mut [u8; 1024],
@@ -264,7 +259,7 @@ fn replay_all(
     let mut s = start;
     let mut reader = lines::from_file(STDIN_FILENO);
     for i in 0..u64::MAX {
-        let read = replay_next(s, reader, input, work, scratch, out, trace, text, file);
+        let read = replay_next(s, reader, input, work, out, trace, text, file);
         let state = read.state;
         s = state;
         let after = read.reader;
@@ -307,7 +302,6 @@ fn nothing() -> Tally {
 
 fn main() {
     let mut work = [0.0; 662000];
-    let mut scratch = [0.0; 256];
     let mut out = [0.0; 65536];
     let mut trace = [0.0; 65536];
     let mut input = io::large_buffer();
@@ -322,7 +316,6 @@ fn main() {
         start,
         &mut input,
         &mut work,
-        &mut scratch,
         &mut out,
         &mut trace,
         &mut text,

@@ -40,7 +40,7 @@ module _ (i : Instrument) where
   enough : ltb (scratchCells i) (scratchCells i) ≡ false
   enough = le-ltb (scratchCells i) (scratchCells i) (omega arith)
 
-  -- One call after the other. Play and go ask for 6S scratch cells, and have them; what else is tested computes.
+  -- One call after the other. Play and go ask for S scratch cells, and have just these; what else is tested computes.
   pub then-play : (p : Machine) (m : ℕ) (cs : List Call) (rs : List (List ℕ)) → ltb m m ≡ false → ltb end (p .t + m) ≡ false
       → map shown (replies i (record { score = p .score; t = p .t + m; cues = p .cues }) cs) ≡ rs → map shown (replies i p (play m ∷ cs)) ≡ [] ∷ rs
   unfolding replies does

@@ -1,8 +1,7 @@
 -- 7 and 8 first; where they let the records through, 9, 11 and 16 in their order, each by its test's law. The start is at most p, so that p - start is a number.
-use mathlib.Core.Path.{sym, _∙_}
+use mathlib.Core.Path.{_∙_}
 use native.Mathlib.Omega.{arith}
 use Rattle.machine.specs.Laws.{else-first, else-next}
-use Rattle.session_record.specs.Laws.{passed}
 use Rattle.session_record.proofs.Tests.{go-9, go-11, go-16, go-0}
 use borrow.Author.Needs.{needs}
 use Rattle.session_record.proofs.go_refusal.Statement.{statement}
@@ -15,9 +14,7 @@ returns : tie.Need-returns
 returns c = else-first _ _ _ (c .before .record-refusal .ensures) (c .if1 .taken)
 
 scratch-cells-requires : tie.Need-scratch-cells-requires
-scratch-cells-requires c κs =
-    let from = c .before .before .args in
-    passed (from .instrument) (from .session) (from .cells) (sym (c .before .record-refusal .ensures) ∙ c .if1 .left) .sound
+scratch-cells-requires c κs = search needs
 
 returns-2 : tie.Need-returns-2
 returns-2 c =

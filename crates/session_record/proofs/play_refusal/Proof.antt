@@ -15,9 +15,7 @@ returns : tie.Need-returns
 returns c = else-first _ _ _ (c .before .record-refusal .ensures) (c .if1 .taken)
 
 scratch-cells-requires : tie.Need-scratch-cells-requires
-scratch-cells-requires c κs =
-    let from = c .before .before .args in
-    passed (from .instrument) (from .session) (from .cells) (sym (c .before .record-refusal .ensures) ∙ c .if1 .left) .sound
+scratch-cells-requires c κs = search needs
 
 returns-2 : tie.Need-returns-2
 returns-2 c =

@@ -5,11 +5,11 @@ use Rattle.test_session.proofs.replay_all.Statement.{statement}
 use Rattle.test_session.proofs.replay_all.Tie as tie
 
 abbrev Inv-loop : tie.InvT-loop
-Inv-loop input₀ work₀ scratch₀ out₀ trace₀ text₀ file₀ s₀ reader₀ i₀ input work scratch out trace text file s reader i =
+Inv-loop input₀ work₀ out₀ trace₀ text₀ file₀ s₀ reader₀ i₀ input work out trace text file s reader i =
     Unit {0}
 
 abbrev μ-loop : tie.MeasureT-loop
-μ-loop input₀ work₀ scratch₀ out₀ trace₀ text₀ file₀ s₀ reader₀ i₀ input work scratch out trace text file s reader i =
+μ-loop input₀ work₀ out₀ trace₀ text₀ file₀ s₀ reader₀ i₀ input work out trace text file s reader i =
     18446744073709551615 - i
 
 from-file-requires : tie.Need-from-file-requires Inv-loop μ-loop

@@ -5,11 +5,11 @@ use Rattle.rehearse.proofs.rehearsal.rehearse_lines.Statement.{statemen
 use Rattle.rehearse.proofs.rehearsal.rehearse_lines.Tie as tie
 
 abbrev Inv-loop : tie.InvT-loop
-Inv-loop instrument places work₀ scratch₀ out₀ trace₀ input₀ answers₀ bytes₀ r₀ i₀ work scratch out trace input answers bytes r i =
+Inv-loop instrument places work₀ out₀ trace₀ input₀ answers₀ bytes₀ r₀ i₀ work out trace input answers bytes r i =
     Unit {0}
 
 abbrev μ-loop : tie.MeasureT-loop
-μ-loop instrument places work₀ scratch₀ out₀ trace₀ input₀ answers₀ bytes₀ r₀ i₀ work scratch out trace input answers bytes r i =
+μ-loop instrument places work₀ out₀ trace₀ input₀ answers₀ bytes₀ r₀ i₀ work out trace input answers bytes r i =
     18446744073709551615 - i
 
 loop-holds : tie.Need-loop-holds Inv-loop μ-loop
