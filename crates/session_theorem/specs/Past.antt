@@ -12,7 +12,7 @@ use lib.Ieee.{Float}
 use lib.ListN.{length, take, drop, getD, set, length-set, length-map, List·getD-map}
 use lib.Seq.{length-take-le, getD-set-other}
 use Rattle.cells.specs.Splice.{part, splice}
-use Rattle.counting.specs.Meets.{Meets}
+use Rattle.counting.specs.Meets.{meets-both}
 use Rattle.instrument.specs.declared.Instrument.{Instrument}
 use Rattle.instrument.specs.Work.{partCells}
 use Rattle.score.specs.declared.TimedEvent.{TimedEvent}
@@ -231,11 +231,6 @@ pub record SameOutcome (i : Instrument) (r : Outcome) (work out trace : List Flo
   pub reply : replyOf (r .answer) out trace ≡ replyOf (r′ .answer) out′ trace′
   pub after : Alike i (r .session) work (r′ .session) work′
 
--- a call by its number, the same for both: either both are refused or both are accepted
-pub by-number : {R R′ : ℕ → Type 0} {A A′ P : Type 0} (n n′ : ℕ) → Meets n R A → Meets n′ R′ A′ → n ≡ n′ → (n ≡ n′ → R n → R′ n′ → P) → (n ≡ 0 → A → A′ → P) → P
-by-number zero n′ h h′ e refuses accepts = accepts refl (h .accepts refl) (h′ .accepts (sym e))
-by-number (suc n) n′ h h′ e refuses accepts = refuses e (h .refuses (λ z. omega arith)) (h′ .refuses (λ z. omega (arith, z, e)))
-
 module _ (i : Instrument) (s : Session) (work : List Float) (s′ : Session) (work′ : List Float) (a : Alike i s work s′ work′) where
   abbrev W : ℕ
   W = partCells i
@@ -303,7 +298,7 @@ module _ (i : Instrument) (s : Session) (work : List Float) (s′ : Session) (wo
 
     pub same-play : SameOutcome i r left out₁ trace₁ r′ left′ out₂ trace₂
     same-play =
-        by-number _ _ h h′ (rw (same-refusal i s work s′ work′ a, a .position, outs, traces) refl)
+        meets-both _ _ h h′ (rw (same-refusal i s work s′ work′ a, a .position, outs, traces) refl)
         (λ e k k′. refused _ _ r r′ left left′ out₁ trace₁ out₂ trace₂ e (k .0, k .1) (k′ .0, k′ .1))
         (λ z d d′. play-accepted d d′ (passed-play i s (length work) scratch (length out) (length trace) z .records))
 
@@ -343,7 +338,7 @@ module _ (i : Instrument) (s : Session) (work : List Float) (s′ : Session) (wo
 
     pub same-cue : SameOutcome i r left out trace r′ left′ out₀ trace₀
     same-cue =
-        by-number _ _ h h′ (rw (same-refusal i s work s′ work′ a, a .position, same-cues i s work s′ work′ a) refl)
+        meets-both _ _ h h′ (rw (same-refusal i s work s′ work′ a, a .position, same-cues i s work s′ work′ a) refl)
         (λ e k k′. refused _ _ r r′ left left′ out trace out₀ trace₀ e k k′)
         (λ z d d′. cue-accepted (isIn (s .t) (keptBy s)) refl d d′ (passed-cue i s (length work) z))
 
@@ -384,7 +379,7 @@ module _ (i : Instrument) (s : Session) (work : List Float) (s′ : Session) (wo
 
     pub same-go : SameOutcome i r left out trace r′ left′ out₀ trace₀
     same-go =
-        by-number _ _ h h′ (rw (same-refusal i s work s′ work′ a, same-start) refl)
+        meets-both _ _ h h′ (rw (same-refusal i s work s′ work′ a, same-start) refl)
         (λ e k k′. refused _ _ r r′ left left′ out trace out₀ trace₀ e k k′)
         (λ z d d′. go-accepted d d′ (passed-go i s (length work) scratch q z .records))
 
@@ -426,7 +421,7 @@ module _ (i : Instrument) (s : Session) (work : List Float) (s′ : Session) (wo
       (h : InsertMeets i s work e r left) (h′ : InsertMeets i s′ work′ e r′ left′) where
     pub same-insert : SameOutcome i r left out trace r′ left′ out₀ trace₀
     same-insert =
-        by-number _ _ h h′ (rw (same-refusal i s work s′ work′ a, a .number) refl)
+        meets-both _ _ h h′ (rw (same-refusal i s work s′ work′ a, a .number) refl)
         (λ e k k′. refused _ _ r r′ left left′ out trace out₀ trace₀ e k k′)
         (λ z d d′.
         let p = passed-insert i s (length work) e z in
@@ -440,7 +435,7 @@ module _ (i : Instrument) (s : Session) (work : List Float) (s′ : Session) (wo
       (h : RemoveMeets i s work index r left) (h′ : RemoveMeets i s′ work′ index r′ left′) where
     pub same-remove : SameOutcome i r left out trace r′ left′ out₀ trace₀
     same-remove =
-        by-number _ _ h h′ (rw (same-refusal i s work s′ work′ a, a .number) refl)
+        meets-both _ _ h h′ (rw (same-refusal i s work s′ work′ a, a .number) refl)
         (λ e k k′. refused _ _ r r′ left left′ out trace out₀ trace₀ e k k′)
         (λ z d d′.
         let passed = passed-remove i s (length work) index z in

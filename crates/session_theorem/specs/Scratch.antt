@@ -7,6 +7,7 @@ use mathlib.Core.List.{List, [], _∷_}
 use Prim.Native.Nat.{ℕ}
 use lib.Ieee.{Float}
 use lib.ListN.{length, take}
+use Rattle.counting.specs.Meets.{meets-both}
 use Rattle.instrument.specs.declared.Instrument.{Instrument}
 use Rattle.score.specs.declared.TimedEvent.{TimedEvent}
 use Rattle.render.specs.Render.{forces}
@@ -19,7 +20,6 @@ use Rattle.session.specs.declared.Outcome.{Outcome}
 use Rattle.session.specs.Calls.{keptBy, stateNow, refusedWith, Plays, Cues, Goes, Edits}
 use Rattle.session_theorem.specs.Runs.{replyOf, CallMeets, Runs}
 use Rattle.session_theorem.specs.Memory.{front-now}
-use Rattle.session_theorem.specs.Past.{by-number}
 
 -- the call with so many scratch cells; only play and go have any
 abbrev pub withScratch : ℕ → Call → Call
@@ -41,15 +41,15 @@ pub record LeavesSame (r : Outcome) (work out trace : List Float) (r′ : Outcom
   pub reply : replyOf (r .answer) out trace ≡ replyOf (r′ .answer) out′ trace′
 
 module _ (i : Instrument) (s : Session) (work : List Float) (r r′ : Outcome) (left left′ out₁ trace₁ out₂ trace₂ : List Float) where
-  abbrev Same : Type 0
-  Same = LeavesSame r left out₁ trace₁ r′ left′ out₂ trace₂
+  abbrev Agree : Type 0
+  Agree = LeavesSame r left out₁ trace₁ r′ left′ out₂ trace₂
 
   -- refused by the same number
-  both-refused : (n n′ : ℕ) → n ≡ n′ → (r ≡ refusedWith s n) × (left ≡ work) → (r′ ≡ refusedWith s n′) × (left′ ≡ work) → Same
+  both-refused : (n n′ : ℕ) → n ≡ n′ → (r ≡ refusedWith s n) × (left ≡ work) → (r′ ≡ refusedWith s n′) × (left′ ≡ work) → Agree
   both-refused n n′ e k k′ = record { outcome = rw (k .0, k′ .0, e) refl; memory = k .1 ∙ sym (k′ .1); reply = rw (k .0, k′ .0, e) refl }
 
   -- accepted, with the same answer, session and memory, where the reply is the answer's alone or has the same samples and forces
-  both-accepted : r .answer ≡ r′ .answer → r .session ≡ r′ .session → left ≡ left′ → replyOf (r .answer) out₁ trace₁ ≡ replyOf (r .answer) out₂ trace₂ → Same
+  both-accepted : r .answer ≡ r′ .answer → r .session ≡ r′ .session → left ≡ left′ → replyOf (r .answer) out₁ trace₁ ≡ replyOf (r .answer) out₂ trace₂ → Agree
   both-accepted a k m e =
       record {
         outcome = ap {B = Outcome} (λ x. record { answer = x; session = r .session }) a ∙ ap {B = Outcome} (λ x. record { answer = r′ .answer; session = x }) k;
@@ -58,7 +58,7 @@ module _ (i : Instrument) (s : Session) (work : List Float) (r r′ : Outcome) (
       }
 
   -- the first k cells of either trace are the play's forces
-  plays-same : (out trace out₀ trace₀ : List Float) → length out ≡ length out₀ → Plays i s work out trace r left out₁ trace₁ → Plays i s work out₀ trace₀ r′ left′ out₂ trace₂ → Same
+  plays-same : (out trace out₀ trace₀ : List Float) → length out ≡ length out₀ → Plays i s work out trace r left out₁ trace₁ → Plays i s work out₀ trace₀ r′ left′ out₂ trace₂ → Agree
   plays-same out trace out₀ trace₀ outs d d′ =
       let pushed = forces i (scoreOf s) (s .t) (length out) (stateNow i s work) in
       let traced : take (length pushed) trace₁ ≡ pushed = front-now (length pushed) pushed _ trace₁ (d .pushes) refl in
@@ -67,7 +67,7 @@ module _ (i : Instrument) (s : Session) (work : List Float) (r r′ : Outcome) (
       (rw (d .answer, d .sound, d′ .sound, traced, traced′, outs) refl)
 
   -- t is kept already, or a free slot is taken
-  cues-same : (b : Bool) → isIn (s .t) (keptBy s) ≡ b → Cues i s work r left → Cues i s work r′ left′ → Same
+  cues-same : (b : Bool) → isIn (s .t) (keptBy s) ≡ b → Cues i s work r left → Cues i s work r′ left′ → Agree
   cues-same true e d d′ =
       let k = d .again e in
       let k′ = d′ .again e in
@@ -77,11 +77,11 @@ module _ (i : Instrument) (s : Session) (work : List Float) (r r′ : Outcome) (
       let k′ = d′ .adds e in
       both-accepted (d .answer ∙ sym (d′ .answer)) (k .0 ∙ sym (k′ .0)) (k .1 ∙ sym (k′ .1)) (rw (d .answer) refl)
 
-  goes-same : (p start : ℕ) → Goes i s work p start r left → Goes i s work p start r′ left′ → Same
+  goes-same : (p start : ℕ) → Goes i s work p start r left → Goes i s work p start r′ left′ → Agree
   goes-same p start d d′ =
       both-accepted (d .answer ∙ sym (d′ .answer)) (d .session ∙ sym (d′ .session)) (d .memory ∙ sym (d′ .memory)) (rw (d .answer) refl)
 
-  edits-same : (q number : ℕ) (events : List TimedEvent) → Edits i s work q number events r left → Edits i s work q number events r′ left′ → Same
+  edits-same : (q number : ℕ) (events : List TimedEvent) → Edits i s work q number events r left → Edits i s work q number events r′ left′ → Agree
   edits-same q number events d d′ =
       both-accepted (d .answer ∙ sym (d′ .answer)) (d .session ∙ sym (d′ .session)) (d .memory ∙ sym (d′ .memory)) (rw (d .answer) refl)
 
@@ -92,20 +92,20 @@ pub any-scratch : (i : Instrument) (s : Session) (work : List Float) (c : Call) 
     → LeavesSame r left out₁ trace₁ r′ left′ out₂ trace₂
 any-scratch i s work (Call.play _ m n) a b e out trace out₀ trace₀ r r′ left left′ out₁ trace₁ out₂ trace₂ h h′ =
     let outs = h .0 ∙ sym (h′ .0) in
-    by-number _ _ (h .2) (h′ .2) (rw (e, outs, h .1 ∙ sym (h′ .1)) refl)
+    meets-both _ _ (h .2) (h′ .2) (rw (e, outs, h .1 ∙ sym (h′ .1)) refl)
     (λ q k k′. both-refused i s work r r′ left left′ out₁ trace₁ out₂ trace₂ _ _ q (k .0, k .1) (k′ .0, k′ .1))
     (λ z d d′. plays-same i s work r r′ left left′ out₁ trace₁ out₂ trace₂ out trace out₀ trace₀ outs d d′)
 any-scratch i s work Call.cue a b e out trace out₀ trace₀ r r′ left left′ out₁ trace₁ out₂ trace₂ h h′ =
-    by-number _ _ h h′ refl (both-refused i s work r r′ left left′ out₁ trace₁ out₂ trace₂ _ _)
+    meets-both _ _ h h′ refl (both-refused i s work r r′ left left′ out₁ trace₁ out₂ trace₂ _ _)
     (λ z d d′. cues-same i s work r r′ left left′ out₁ trace₁ out₂ trace₂ _ refl d d′)
 any-scratch i s work (Call.go _ p) a b e out trace out₀ trace₀ r r′ left left′ out₁ trace₁ out₂ trace₂ h h′ =
-    by-number _ _ h h′ (rw e refl) (both-refused i s work r r′ left left′ out₁ trace₁ out₂ trace₂ _ _)
+    meets-both _ _ h h′ (rw e refl) (both-refused i s work r r′ left left′ out₁ trace₁ out₂ trace₂ _ _)
     (λ z d d′. goes-same i s work r r′ left left′ out₁ trace₁ out₂ trace₂ _ _ d d′)
 any-scratch i s work (Call.insert x) a b e out trace out₀ trace₀ r r′ left left′ out₁ trace₁ out₂ trace₂ h h′ =
-    by-number _ _ h h′ refl (both-refused i s work r r′ left left′ out₁ trace₁ out₂ trace₂ _ _)
+    meets-both _ _ h h′ refl (both-refused i s work r r′ left left′ out₁ trace₁ out₂ trace₂ _ _)
     (λ z d d′. edits-same i s work r r′ left left′ out₁ trace₁ out₂ trace₂ _ _ _ d d′)
 any-scratch i s work (Call.remove index) a b e out trace out₀ trace₀ r r′ left left′ out₁ trace₁ out₂ trace₂ h h′ =
-    by-number _ _ h h′ refl (both-refused i s work r r′ left left′ out₁ trace₁ out₂ trace₂ _ _)
+    meets-both _ _ h h′ refl (both-refused i s work r r′ left left′ out₁ trace₁ out₂ trace₂ _ _)
     (λ z d d′. edits-same i s work r r′ left left′ out₁ trace₁ out₂ trace₂ _ _ _ d d′)
 
 -- a list of calls

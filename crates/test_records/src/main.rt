@@ -33,7 +33,7 @@ fn say_cells(n: u64, before: u64, after: u64) {
 }
 
 // The least scratch that the instrument's 22 strings ask for, with no number in it.
-fn unset_scratch() -> [f64; 22] {
+fn least_scratch() -> [f64; 22] {
     [0.0 / 0.0; 22]
 }
 
@@ -104,7 +104,7 @@ fn try_energies(instrument: Instrument, session: Session, work: &[f64]) {
 // Every call gets the same session, and the memory that the others left.
 fn try_calls(name: &[u8], instrument: Instrument, session: Session) {
     let mut work = [0.25; 25310];
-    let mut scratch = unset_scratch();
+    let mut scratch = least_scratch();
     io::write_all(STDOUT_FILENO, name);
     io::write_all(STDOUT_FILENO, b":");
     try_energies(instrument, session, &work);
@@ -301,7 +301,7 @@ fn try_right(i: Instrument, s: Session) {
 // A session at 10 that keeps nothing.
 fn right_session(i: Instrument) -> Session {
     let mut work = [0.0; 25310];
-    let mut scratch = unset_scratch();
+    let mut scratch = least_scratch();
     let opened = session::open(i, &mut work);
     let there = session::go(i, opened.session, &mut work, &mut scratch, 10);
     there.session
