@@ -119,10 +119,19 @@ impl Report {
     }
 }
 
+/// The most scratch cells that an instrument asks for, one for each string.
+const MOST_SCRATCH: usize = 32;
+
+/// Scratch for one call: what stands in it decides nothing, so no session keeps any.
+fn unset_scratch() -> [f64; MOST_SCRATCH] {
+    [f64::NAN; MOST_SCRATCH]
+}
+
 fn sizes_of(file: &[u8]) -> Result<Sizes, Refusal> {
     let sizes = library!(gingerfile_read, [file], []);
     Refusal::of(sizes.refusal)?;
-    assert_eq!(sizes.words, WORDS, "libgingerfile.a is of another version than this wrapper");
+    let fits = sizes.words == WORDS && sizes.scratch <= MOST_SCRATCH;
+    assert!(fits, "libgingerfile.a is of another version than this wrapper");
     Ok(sizes)
 }
 
@@ -145,7 +154,8 @@ pub struct Console {
     keys: Vec<u8>,
     words: Box<[u64; WORDS]>,
     work: Vec<f64>,
-    scratch: Vec<f64>,
+    /// How many scratch cells the library asks for.
+    scratch: usize,
 }
 
 impl Console {
@@ -157,7 +167,7 @@ impl Console {
     ///
     /// # Panics
     ///
-    /// Where the library that was linked has sessions of another number of words than this wrapper.
+    /// Where the library that was linked has sessions of another number of words than this wrapper, or asks for more scratch.
     pub fn open(file: &[u8]) -> Result<Console, Refusal> {
         let sizes = sizes_of(file)?;
         let (mut words, mut work) = (vec![0; WORDS], vec![0.0; sizes.work]);
@@ -178,8 +188,7 @@ impl Console {
             keys: keys[..count].to_vec(),
             words: Box::new([0; WORDS]),
             work,
-            // what stands in scratch decides nothing
-            scratch: vec![f64::NAN; sizes.scratch],
+            scratch: sizes.scratch,
         };
         console.words.copy_from_slice(words);
         Ok(console)
@@ -242,6 +251,7 @@ impl Console {
     /// [`TRACE`](Refusal::TRACE) and [`PAST_END`](Refusal::PAST_END).
     pub fn play(&mut self, out: &mut [f64], trace: &mut [f64]) -> Result<Played, Refusal> {
         let Console { file, words, work, scratch, .. } = self;
+        let scratch = &mut unset_scratch()[..*scratch];
         library!(gingerfile_play, [file], [words, work, scratch, out, trace]).played()
     }
 
@@ -285,6 +295,7 @@ impl Console {
     /// [`PAST_END`](Refusal::PAST_END) and [`REPLAY`](Refusal::REPLAY).
     pub fn go(&mut self, p: u64) -> Result<u64, Refusal> {
         let Console { file, words, work, scratch, .. } = self;
+        let scratch = &mut unset_scratch()[..*scratch];
         Ok(library!(gingerfile_go, [file], [words, work, scratch], p).accepted()?.value)
     }
 

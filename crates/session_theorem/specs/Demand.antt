@@ -102,8 +102,8 @@ stands-counts i s work p g =
 -- ---- the theorem
 
 -- For every instrument and work memory with which open is accepted, and for every list of calls run from there, each by its function's contract: the replies are the plain
--- machine's, the program's session and memory are the plain machine's, the keys' contact counts add up to the Rust's one count, every refusal is from 9 to 16, each accepted go replays no more than it must, and the events that act on a
--- sample are those of document 01's rule, in the order of document 02's W1.
+-- machine's, the program's session and memory are the plain machine's, the keys' contact counts add up to the Rust's one count, every refusal is from 9 to 16, each accepted go
+-- replays no more than it must, and the events that act on a sample are those of document 01's rule, in the order of document 02's W1.
 pub demand-3 : (i : Instrument) (work work′ : List Float) (r : Outcome) → OpenMeets i work r work′ → r .answer ≡ Opened
     → {cs : List Call} {rs : List Reply} {s : Session} {work″ : List Float} → Runs i (r .session) work′ cs rs s work″ → Claim i cs rs s work″
 demand-3 i work work′ r h e {cs} {rs} t =

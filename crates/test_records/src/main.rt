@@ -1,5 +1,5 @@
 // Records that no list of calls reaches, handed to every call: those that refusal 7 has to catch, and those that differ from a right one only where nothing may be decided. Each line has the
-// number that each call gives, 0 where it is accepted, and whether a refused call changed a cell.
+// number that each call gives, 0 where it is accepted, and whether a refused call changed a cell. One line has a right record and a scratch cell too few.
 mod records;
 
 use instrument::Instrument;
