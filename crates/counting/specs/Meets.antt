@@ -17,6 +17,7 @@ module _ {number : ℕ} {refused : ℕ → Type 0} {accepted : Type 0} (n : ℕ)
   meets-accepted z a = record { refuses = λ h. absurd (h (sym e ∙ z)); accepts = λ x. a }
 
 -- two calls with one number: both are refused, or both are accepted
-pub meets-both : {R R′ : ℕ → Type 0} {A A′ P : Type 0} (n n′ : ℕ) → Meets n R A → Meets n′ R′ A′ → n ≡ n′ → (n ≡ n′ → R n → R′ n′ → P) → (n ≡ 0 → A → A′ → P) → P
+pub meets-both : {R R′ : ℕ → Type 0} {A A′ P : Type 0} (n n′ : ℕ) → Meets n R A → Meets n′ R′ A′ → n ≡ n′
+    → (n ≡ n′ → R n → R′ n′ → P) → (n ≡ 0 → A → A′ → P) → P
 meets-both zero n′ h h′ e refuses accepts = accepts refl (h .accepts refl) (h′ .accepts (sym e))
 meets-both (suc n) n′ h h′ e refuses accepts = refuses e (h .refuses (λ z. omega arith)) (h′ .refuses (λ z. omega (arith, z, e)))

@@ -112,7 +112,8 @@ module _ {f w : List ℕ} {whole : Bool} {Stays : Type 0} {Promise : Instrument 
   pub crosses-refused : {n : ℕ} → n ≡ handedRefusal (readOf f .refusal) whole → (n ≡ 0 → ⊥) → r ≡ refusedBy n → Stays → Crosses f whole w r w Stays Promise
   crosses-refused e h er same = record { refuses = λ _. (er ∙ ap refusedBy e, refl, same); calls = λ z. absurd (h (e ∙ z)) }
 
-  pub crosses-called : {n : ℕ} → n ≡ handedRefusal (readOf f .refusal) whole → n ≡ 0 → {w′ : List ℕ} {o : Outcome} → Promise (readOf f .instrument) (sessionOf w) o → Keeps o w r w′
+  pub crosses-called : {n : ℕ} → n ≡ handedRefusal (readOf f .refusal) whole → n ≡ 0 → {w′ : List ℕ} {o : Outcome}
+      → Promise (readOf f .instrument) (sessionOf w) o → Keeps o w r w′
       → Crosses f whole w r w′ Stays Promise
   crosses-called e h m keeps = record { refuses = λ z. absurd (z (sym e ∙ h)); calls = λ _. record { outcome = _; meets = m; keeps = keeps } }
 

@@ -58,7 +58,8 @@ module _ (i : Instrument) (s : Session) (work : List Float) (r r′ : Outcome) (
       }
 
   -- the first k cells of either trace are the play's forces
-  plays-same : (out trace out₀ trace₀ : List Float) → length out ≡ length out₀ → Plays i s work out trace r left out₁ trace₁ → Plays i s work out₀ trace₀ r′ left′ out₂ trace₂ → Agree
+  plays-same : (out trace out₀ trace₀ : List Float) → length out ≡ length out₀
+      → Plays i s work out trace r left out₁ trace₁ → Plays i s work out₀ trace₀ r′ left′ out₂ trace₂ → Agree
   plays-same out trace out₀ trace₀ outs d d′ =
       let pushed = forces i (scoreOf s) (s .t) (length out) (stateNow i s work) in
       let traced : take (length pushed) trace₁ ≡ pushed = front-now (length pushed) pushed _ trace₁ (d .pushes) refl in
@@ -85,28 +86,17 @@ module _ (i : Instrument) (s : Session) (work : List Float) (r r′ : Outcome) (
   edits-same q number events d d′ =
       both-accepted (d .answer ∙ sym (d′ .answer)) (d .session ∙ sym (d′ .session)) (d .memory ∙ sym (d′ .memory)) (rw (d .answer) refl)
 
--- one call: enough scratch twice, or too little twice
-pub any-scratch : (i : Instrument) (s : Session) (work : List Float) (c : Call) (a b : ℕ) → scratchTest i a ≡ scratchTest i b
-    → (out trace out₀ trace₀ : List Float) (r r′ : Outcome) (left left′ out₁ trace₁ out₂ trace₂ : List Float)
-    → CallMeets i s work (withScratch a c) out trace r left out₁ trace₁ → CallMeets i s work (withScratch b c) out₀ trace₀ r′ left′ out₂ trace₂
-    → LeavesSame r left out₁ trace₁ r′ left′ out₂ trace₂
-any-scratch i s work (Call.play _ m n) a b e out trace out₀ trace₀ r r′ left left′ out₁ trace₁ out₂ trace₂ h h′ =
-    let outs = h .0 ∙ sym (h′ .0) in
-    meets-both _ _ (h .2) (h′ .2) (rw (e, outs, h .1 ∙ sym (h′ .1)) refl)
-    (λ q k k′. both-refused i s work r r′ left left′ out₁ trace₁ out₂ trace₂ _ _ q (k .0, k .1) (k′ .0, k′ .1))
-    (λ z d d′. plays-same i s work r r′ left left′ out₁ trace₁ out₂ trace₂ out trace out₀ trace₀ outs d d′)
-any-scratch i s work Call.cue a b e out trace out₀ trace₀ r r′ left left′ out₁ trace₁ out₂ trace₂ h h′ =
-    meets-both _ _ h h′ refl (both-refused i s work r r′ left left′ out₁ trace₁ out₂ trace₂ _ _)
-    (λ z d d′. cues-same i s work r r′ left left′ out₁ trace₁ out₂ trace₂ _ refl d d′)
-any-scratch i s work (Call.go _ p) a b e out trace out₀ trace₀ r r′ left left′ out₁ trace₁ out₂ trace₂ h h′ =
-    meets-both _ _ h h′ (rw e refl) (both-refused i s work r r′ left left′ out₁ trace₁ out₂ trace₂ _ _)
-    (λ z d d′. goes-same i s work r r′ left left′ out₁ trace₁ out₂ trace₂ _ _ d d′)
-any-scratch i s work (Call.insert x) a b e out trace out₀ trace₀ r r′ left left′ out₁ trace₁ out₂ trace₂ h h′ =
-    meets-both _ _ h h′ refl (both-refused i s work r r′ left left′ out₁ trace₁ out₂ trace₂ _ _)
-    (λ z d d′. edits-same i s work r r′ left left′ out₁ trace₁ out₂ trace₂ _ _ _ d d′)
-any-scratch i s work (Call.remove index) a b e out trace out₀ trace₀ r r′ left left′ out₁ trace₁ out₂ trace₂ h h′ =
-    meets-both _ _ h h′ refl (both-refused i s work r r′ left left′ out₁ trace₁ out₂ trace₂ _ _)
-    (λ z d d′. edits-same i s work r r′ left left′ out₁ trace₁ out₂ trace₂ _ _ _ d d′)
+  -- one call: enough scratch twice, or too little twice
+  pub any-scratch : (c : Call) (a b : ℕ) → scratchTest i a ≡ scratchTest i b → (out trace out₀ trace₀ : List Float)
+      → CallMeets i s work (withScratch a c) out trace r left out₁ trace₁ → CallMeets i s work (withScratch b c) out₀ trace₀ r′ left′ out₂ trace₂ → Agree
+  any-scratch (Call.play _ m n) a b e out trace out₀ trace₀ h h′ =
+      let outs = h .0 ∙ sym (h′ .0) in
+      meets-both _ _ (h .2) (h′ .2) (rw (e, outs, h .1 ∙ sym (h′ .1)) refl) (λ q k k′. both-refused _ _ q (k .0, k .1) (k′ .0, k′ .1))
+      (λ z d d′. plays-same out trace out₀ trace₀ outs d d′)
+  any-scratch Call.cue a b e out trace out₀ trace₀ h h′ = meets-both _ _ h h′ refl (both-refused _ _) (λ z d d′. cues-same _ refl d d′)
+  any-scratch (Call.go _ p) a b e out trace out₀ trace₀ h h′ = meets-both _ _ h h′ (rw e refl) (both-refused _ _) (λ z d d′. goes-same _ _ d d′)
+  any-scratch (Call.insert x) a b e out trace out₀ trace₀ h h′ = meets-both _ _ h h′ refl (both-refused _ _) (λ z d d′. edits-same _ _ _ d d′)
+  any-scratch (Call.remove index) a b e out trace out₀ trace₀ h h′ = meets-both _ _ h h′ refl (both-refused _ _) (λ z d d′. edits-same _ _ _ d d′)
 
 -- a list of calls
 pub scratch-decides-nothing : (i : Instrument) {s s₁ s₂ : Session} {work work₁ work₂ : List Float} {cs cs′ : List Call} {rs rs′ : List Reply}
@@ -114,6 +104,6 @@ pub scratch-decides-nothing : (i : Instrument) {s s₁ s₂ : Session} {work wor
 scratch-decides-nothing i SameButScratch.done Runs.done Runs.done = (refl, refl, refl)
 scratch-decides-nothing i (SameButScratch.next c a b e same) (Runs.next {s = s} {work = work} _ out trace r left out₁ trace₁ h rest)
     (Runs.next _ out₀ trace₀ r′ left′ out₂ trace₂ h′ rest′) =
-    let t = any-scratch i s work c a b e out trace out₀ trace₀ r r′ left left′ out₁ trace₁ out₂ trace₂ h h′ in
+    let t = any-scratch i s work r r′ left left′ out₁ trace₁ out₂ trace₂ c a b e out trace out₀ trace₀ h h′ in
     let u = scratch-decides-nothing i same rest (rw (sym (t .outcome), sym (t .memory)) at rest′) in
     (cc (t .reply, u .0), u .1, u .2)
