@@ -5,6 +5,7 @@ mod grand;
 mod measure;
 mod sides;
 
+use comparison::gingerfile::END;
 use grand::{instrument, strikes};
 use measure::{measure, report, Measured};
 use sides::Sides;
@@ -84,10 +85,11 @@ fn rows_of(rows: &mut Vec<Measured>, setup: &Setup) {
     }
 }
 
-/// What no target is set for: short blocks, and late positions, where the left side is the proved one too, at
-/// position 0.
+/// Short blocks, and the last positions that there are, where the left side is the proved one too, at position 0: a
+/// sample takes no longer there.
 fn others(rows: &mut Vec<Measured>, setup: &Setup) {
-    let (name, samples, late) = (setup.name, setup.samples, 1_900_000_000);
+    let (name, samples) = (setup.name, setup.samples);
+    let late = END - samples as u64;
     let made = |t| {
         Sides::new(
             instrument(4, setup.keys, setup.strings, setup.ap_count),
@@ -98,11 +100,14 @@ fn others(rows: &mut Vec<Measured>, setup: &Setup) {
     };
     let (mut sides, what) = (made(0), format!("{name}, h = 4, blocks of 64"));
     rows.push(measure(&what, None, samples, &mut sides, Sides::ready, Sides::rust, |s| s.rattle(64)));
+    let what = format!("{name}, h = 4, proved from position 0 and to the end, from {late}");
+    let mut both = (made(0), made(late));
+    both.1.checked(&what);
     rows.push(measure(
-        &format!("{name}, h = 4, proved at position 0 and at {late}"),
-        None,
+        &what,
+        Some(1.05),
         samples,
-        &mut (made(0), made(late)),
+        &mut both,
         |(early, late)| {
             early.ready();
             late.ready();

@@ -1,7 +1,7 @@
 //! The program `rehearse` in ordinary Rust: a script's lines, and their answers by the plain machine and the Rust's
 //! renders.
 
-use crate::machine::{Edited, Lent, Machine, Played, Renders};
+use crate::machine::{Edited, Lent, Machine, Played, Renders, END};
 use comparison::instrument::Instrument;
 use comparison::model::Event;
 
@@ -149,9 +149,10 @@ pub struct Console<'a> {
 }
 
 impl<'a> Console<'a> {
-    pub fn open(instrument: &'a Instrument) -> Console<'a> {
+    /// It opens at `base`, which is position 0 in all that it is asked and answers; so its end is as much earlier.
+    pub fn open(instrument: &'a Instrument, base: u64) -> Console<'a> {
         let lent = Lent { scratch: instrument.string_count(), trace: TRACE as usize, work: WORK as usize };
-        Console { machine: Machine::open(instrument), renders: Renders::new(instrument), lent }
+        Console { machine: Machine::open(instrument, END - base), renders: Renders::new(instrument, base), lent }
     }
 
     fn state(&mut self) -> Answer {
@@ -229,7 +230,7 @@ pub fn opened(instrument: &Instrument) -> Answer {
 
 /// Every answer to a script, in order, the opening first.
 pub fn answers(instrument: &Instrument, script: &str) -> Vec<Answer> {
-    let mut console = Console::open(instrument);
+    let mut console = Console::open(instrument, 0);
     let lines = script.lines().enumerate();
     let answers = lines.filter_map(|(i, line)| console.line(i + 1, line));
     std::iter::once(opened(instrument)).chain(answers).collect()

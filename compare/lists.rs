@@ -2,7 +2,7 @@
 //! number, by what the plain machine holds at that line.
 
 use crate::console::{Call, Console, BLOCK, SCRATCH, TRACE, WORK};
-use crate::machine::{END, MOST_EVENTS, MOST_REPLAYED};
+use crate::machine::{FORMER_END, MOST_EVENTS, MOST_REPLAYED};
 use comparison::common::Random;
 use comparison::events::rank;
 use comparison::instrument::Instrument;
@@ -26,8 +26,6 @@ pub enum Theme {
     Far,
     /// 16 keys, 32 strings, 66 stages, long lines.
     Large,
-    /// All the way to the last position: 2,000 steps of a million samples.
-    End,
 }
 
 /// How often an event was inserted at the position of one of another kind.
@@ -141,7 +139,14 @@ impl Writer<'_> {
     }
 
     fn beyond(&mut self) -> u64 {
-        pick(self.random, &[END + 1, END + 2, u32::MAX as u64, u64::MAX, u64::MAX - 1])
+        let end = self.console.machine.end;
+        pick(self.random, &[end + 1, end + 2, 1 << 54, u64::MAX, u64::MAX - 1])
+    }
+
+    /// The last positions, the last of before and the next, and the first past 32 bits.
+    fn late(&mut self) -> u64 {
+        let end = self.console.machine.end;
+        pick(self.random, &[end, end, end.saturating_sub(1), FORMER_END, FORMER_END + 1, u32::MAX as u64 + 1])
     }
 
     fn position(&mut self) -> u64 {
@@ -150,13 +155,18 @@ impl Writer<'_> {
             0 => self.random.below(near),
             1 => self.console.machine.t + self.random.below(60),
             2 => self.console.machine.t.saturating_sub(self.random.below(60)),
-            3 => pick(self.random, &[END, END - 1]),
+            3 => self.late(),
             4 => self.beyond(),
             _ => self.place(),
         }
     }
 
+    /// Mostly short; where the end is near, also just to it, and one sample more.
     fn block(&mut self) -> u64 {
+        let left = self.console.machine.end - self.console.machine.t;
+        if left <= NEAR && self.chance(6) {
+            return left + self.random.below(2);
+        }
         match self.random.below(24) {
             0 | 1 => 0,
             2..=4 => 1,
@@ -244,15 +254,17 @@ impl Writer<'_> {
         self.line(format!("remove {index}"));
     }
 
-    /// A go that is refused, or stays near.
+    /// A go that is refused, or stays near; where the end is near, also to it, and to the position past it.
     fn go(&mut self) {
+        let end = self.console.machine.end;
         let p = match self.random.below(8) {
             0 => self.position(),
+            1 if end <= NEAR => end + self.random.below(2),
             1 => self.over_a_million(),
             _ => self.place(),
         };
         let machine = &self.console.machine;
-        let p = if p > NEAR && p <= END && p - machine.go_start(p) <= MOST_REPLAYED { NEAR } else { p };
+        let p = if p > NEAR && p <= end && p - machine.go_start(p) <= MOST_REPLAYED { NEAR } else { p };
         self.line(format!("go {p}"));
     }
 
@@ -503,42 +515,6 @@ impl Writer<'_> {
         self.state();
     }
 
-    /// Only here can a play pass the last position: its block is no longer than 65,536.
-    fn end(&mut self) {
-        for million in 1..END / MOST_REPLAYED {
-            self.line(format!("go {}", million * MOST_REPLAYED));
-        }
-        let key = self.keys[0];
-        let near = END - 1_000;
-        let lines = [
-            format!("go {near}"),
-            "cue".to_string(),
-            format!("insert {} on {key} 3", near + 500),
-            "play 900".to_string(),
-            "cue".to_string(),
-            "play 101".to_string(),
-            "play 100".to_string(),
-            "state".to_string(),
-            "cue".to_string(),
-            "play 0".to_string(),
-            "play 1".to_string(),
-            format!("go {END}"),
-            format!("go {}", END + 1),
-            format!("insert {END} off {key}"),
-            format!("insert {} on {key} 2", near + 950),
-            "state".to_string(),
-            format!("play {BLOCK}"),
-            "play 100".to_string(),
-            format!("go {near}"),
-            "play 1000".to_string(),
-            "play 1".to_string(),
-            "remove 0".to_string(),
-        ];
-        for line in lines {
-            self.line(line);
-        }
-    }
-
     fn large(&mut self) {
         for _ in 0..4 + self.random.below(6) {
             self.call();
@@ -583,25 +559,29 @@ fn instrument_for(random: &mut Random, theme: Theme) -> Instrument {
     match theme {
         Theme::Wild if random.below(8) == 0 => instruments::wild(random, Size::Large),
         Theme::Wild => instruments::wild(random, Size::Small),
-        Theme::Far | Theme::End => instruments::lossless(random),
+        Theme::Far => instruments::lossless(random),
         Theme::Large => instruments::ordinary(random, Size::Large),
         _ => instruments::ordinary(random, Size::Small),
     }
 }
 
-pub fn list(random: &mut Random, theme: Theme) -> List {
+/// A list for a machine that opens at `base`. Where that is not 0, its first call keeps a cue, so that no step goes back behind it.
+pub fn list(random: &mut Random, theme: Theme, base: u64) -> List {
     let instrument = instrument_for(random, theme);
     let (script, ties, cues) = {
         let mut writer = Writer {
             keys: instrument.keys.iter().map(|k| k.key).collect(),
             strings: instrument.string_count() as u64,
             cells: instrument.cells() as u64,
-            console: Console::open(&instrument),
+            console: Console::open(&instrument, base),
             script: String::new(),
             ties: Ties::default(),
             random,
         };
-        if theme != Theme::End && !writer.chance(10) {
+        if base > 0 {
+            writer.line("cue".to_string());
+        }
+        if !writer.chance(10) {
             writer.prelude();
         }
         match theme {
@@ -615,7 +595,6 @@ pub fn list(random: &mut Random, theme: Theme) -> List {
             Theme::Lent => writer.lent(),
             Theme::Far => writer.far(),
             Theme::Large => writer.large(),
-            Theme::End => writer.end(),
         }
         writer.state();
         writer.energies();

@@ -3,11 +3,13 @@
 
 use comparison::events::in_order;
 use comparison::instrument::Instrument;
-use comparison::model::Event;
+use comparison::model::{inside, Event};
 use std::collections::{BTreeSet, HashMap};
 
 /// No position is above it.
-pub const END: u64 = 2_000_000_000;
+pub const END: u64 = 9_007_199_254_740_992;
+/// None was before document 02's W8.
+pub const FORMER_END: u64 = 2_000_000_000;
 pub const MOST_EVENTS: usize = 64;
 pub const MOST_CUES: usize = 4;
 pub const MOST_REPLAYED: u64 = 1_000_000;
@@ -29,6 +31,8 @@ pub struct Edited {
 
 #[derive(Clone)]
 pub struct Machine {
+    /// The end that refusal 11 tests.
+    pub end: u64,
     pub strings: usize,
     cells: usize,
     pub score: Vec<(u64, Event)>,
@@ -52,9 +56,9 @@ fn velocity_is_wrong(event: &Event) -> bool {
 }
 
 impl Machine {
-    pub fn open(instrument: &Instrument) -> Machine {
+    pub fn open(instrument: &Instrument, end: u64) -> Machine {
         let (strings, cells) = (instrument.string_count(), instrument.cells());
-        Machine { strings, cells, score: Vec::new(), t: 0, cues: BTreeSet::new() }
+        Machine { end, strings, cells, score: Vec::new(), t: 0, cues: BTreeSet::new() }
     }
 
     fn work_is_short(&self, lent: &Lent) -> (u8, bool) {
@@ -70,7 +74,7 @@ impl Machine {
             self.work_is_short(lent),
             self.scratch_is_short(lent),
             (10, (lent.trace as u64) < m),
-            (11, self.t + m > END),
+            (11, self.t + m > self.end),
         ])?;
         self.t += m;
         Ok(())
@@ -102,7 +106,7 @@ impl Machine {
         first_failed(&[
             self.work_is_short(lent),
             self.scratch_is_short(lent),
-            (11, p > END),
+            (11, p > self.end),
             (16, replayed > MOST_REPLAYED),
         ])?;
         self.t = p;
@@ -121,7 +125,7 @@ impl Machine {
     pub fn insert(&mut self, lent: &Lent, q: u64, event: Event) -> Result<Edited, u8> {
         first_failed(&[
             self.work_is_short(lent),
-            (11, q > END),
+            (11, q > self.end),
             (12, self.score.len() == MOST_EVENTS),
             (13, velocity_is_wrong(&event)),
         ])?;
@@ -150,6 +154,8 @@ pub struct Mark {
     pub peak_force: f64,
     pub forces: usize,
     pub energies: Vec<(u8, f64)>,
+    /// All cells of the strings, as work memory has them.
+    pub cells: Vec<f64>,
 }
 
 /// What a play gives: its samples and forces, and the Rust's contact samples at its end.
@@ -159,18 +165,17 @@ pub struct Played {
     pub contact_samples: usize,
 }
 
-/// Positions up to here are always rendered from sample 0.
-const ALL_RENDERED: u64 = 10_000_000;
-
 /// The standing score's renders. Every one starts in silence at sample 0; marks are kept until the next edit.
 pub struct Renders<'a> {
     instrument: &'a Instrument,
+    /// Where sample 0 stands: the strings' lines begin at the cells of this position.
+    base: u64,
     marks: HashMap<u64, Mark>,
 }
 
 impl<'a> Renders<'a> {
-    pub fn new(instrument: &'a Instrument) -> Renders<'a> {
-        Renders { instrument, marks: HashMap::new() }
+    pub fn new(instrument: &'a Instrument, base: u64) -> Renders<'a> {
+        Renders { instrument, base, marks: HashMap::new() }
     }
 
     /// Another score stands from here on.
@@ -178,22 +183,12 @@ impl<'a> Renders<'a> {
         self.marks.clear();
     }
 
-    /// The samples ahead of the first event that no render is needed for: with no damper to move, silence stays
-    /// silence. None of a render that can be made in whole.
-    fn silent(&self, score: &[(u64, Event)], p: u64) -> u64 {
-        if p <= ALL_RENDERED || self.instrument.keys.iter().any(|key| key.has_damper) {
-            return 0;
-        }
-        score.first().map_or(p, |(q, _)| p.min(*q))
-    }
-
-    /// Samples and forces of the first p samples, without the silent ones.
+    /// Samples and forces of the first p samples.
     fn run(&mut self, score: &[(u64, Event)], p: u64) -> (Vec<f64>, Vec<f64>) {
-        let silent = self.silent(score, p);
-        let events: Vec<(usize, Event)> =
-            score.iter().map(|(q, event)| ((*q - silent.min(*q)) as usize, event.clone())).collect();
+        let events: Vec<(usize, Event)> = score.iter().map(|(q, event)| (*q as usize, event.clone())).collect();
         let mut piano = self.instrument.piano();
-        let samples = piano.render((p - silent) as usize, &events);
+        inside::stand_at(&mut piano, self.base);
+        let samples = piano.render(p as usize, &events);
         // document 02, W2: "the sum over keys is the Rust's contact_samples"
         assert_eq!(piano.key_contacts.iter().sum::<usize>(), piano.contact_samples, "the keys' counts at {p}");
         let mark = Mark {
@@ -202,6 +197,7 @@ impl<'a> Renders<'a> {
             peak_force: piano.peak_force,
             forces: piano.force_trace.len(),
             energies: piano.key_energies(),
+            cells: inside::part(&piano),
         };
         self.marks.insert(p, mark);
         (samples, piano.force_trace)
@@ -217,10 +213,8 @@ impl<'a> Renders<'a> {
     /// The samples from t to t + m − 1, their forces, and the count at t + m.
     pub fn play(&mut self, score: &[(u64, Event)], t: u64, m: u64) -> Played {
         let before = self.at(score, t).forces;
-        let (mut all, mut forces) = self.run(score, t + m);
-        let silent = self.silent(score, t + m);
-        let mut samples = vec![0.0; silent.saturating_sub(t) as usize];
-        samples.extend(all.split_off(t.saturating_sub(silent) as usize));
-        Played { samples, forces: forces.split_off(before), contact_samples: self.at(score, t + m).contact_samples }
+        let (mut samples, mut forces) = self.run(score, t + m);
+        let contact_samples = self.at(score, t + m).contact_samples;
+        Played { samples: samples.split_off(t as usize), forces: forces.split_off(before), contact_samples }
     }
 }

@@ -1,13 +1,15 @@
 //! Compares the program `rehearse` with the plain machine over the Rust renderer, through its own files:
-//! `session PROGRAM FOLDER [--end] [--store SAMPLE]` runs PROGRAM on random lists of calls in FOLDER, and holds
-//! every answer, sample and force to the reference's. With --end it runs but one list, which goes to the last
-//! position. SAMPLE gets some of the lists with what they must give.
+//! `session PROGRAM FOLDER [--store SAMPLE]` runs PROGRAM on random lists of calls in FOLDER, and holds every answer,
+//! sample and force to the reference's. SAMPLE gets some of the lists with what they must give.
 
+mod answers;
 mod console;
 mod lists;
+#[allow(dead_code)]
 mod machine;
 
-use comparison::common::{alike, word, Random};
+use answers::{floats_differ, lines_alike, numbered, refusal_in};
+use comparison::common::{word, Random};
 use comparison::felts::Felts;
 use comparison::waves::{floats, wave, HEADER};
 use comparison::{instrument, instruments};
@@ -110,64 +112,9 @@ impl Rehearse {
     }
 }
 
-// ---- one line beside the other
-
-/// A float's 16 digits, or `nan`.
-fn float_of(text: &str) -> Option<f64> {
-    if text == "nan" {
-        return Some(f64::NAN);
-    }
-    let digits = text.len() == 16 && text.bytes().all(|b| b.is_ascii_hexdigit());
-    if digits {
-        u64::from_str_radix(text, 16).ok().map(f64::from_bits)
-    } else {
-        None
-    }
-}
-
-fn floats_alike(a: &str, b: &str) -> bool {
-    matches!((float_of(a), float_of(b)), (Some(x), Some(y)) if alike(x, y))
-}
-
-/// One word beside the other: KEY:BITS by key and float, the word behind `peak` as a float, others as they stand.
-fn words_alike(before: &str, a: &str, b: &str) -> bool {
-    match (a.split_once(':'), b.split_once(':')) {
-        (Some((key, x)), Some((other, y))) => key == other && floats_alike(x, y),
-        _ if before == "peak" => floats_alike(a, b),
-        _ => a == b,
-    }
-}
-
-/// What stands before the free words of a refusal or a bad line.
-fn numbered(line: &str) -> Option<&str> {
-    if line.starts_with("refused ") || line.starts_with("bad line ") {
-        line.split_once(": ").filter(|(_, words)| !words.is_empty()).map(|(head, _)| head)
-    } else {
-        None
-    }
-}
-
-fn lines_alike(reference: &str, program: &str) -> bool {
-    if let Some(head) = numbered(reference) {
-        return numbered(program) == Some(head);
-    }
-    let [a, b]: [Vec<&str>; 2] = [reference, program].map(|line| line.split(' ').collect());
-    a.len() == b.len() && (0..a.len()).all(|i| words_alike(if i == 0 { "" } else { a[i - 1] }, a[i], b[i]))
-}
-
 // ---- a whole list
 
-/// The first difference between a file's floats and the reference's.
-fn floats_differ(what: &str, reference: &[f64], bytes: &[u8]) -> Option<String> {
-    if bytes.len() != 8 * reference.len() {
-        return Some(format!("{what}: {} bytes, and the reference has {}", bytes.len(), 8 * reference.len()));
-    }
-    let program = floats(bytes);
-    let at = (0..program.len()).find(|i| !alike(program[*i], reference[*i]))?;
-    let [a, b] = [reference[at], program[at]].map(|x| format!("{:016x} ({x:e})", x.to_bits()));
-    Some(format!("{what} {at} of {}: the reference has {a}, the program {b}", program.len()))
-}
-
+/// Every line that a program printed, beside the reference's.
 fn answers_differ(reference: &[Answer], program: &str) -> Option<String> {
     let program: Vec<&str> = program.split_terminator('\n').collect();
     for (i, answer) in reference.iter().enumerate() {
@@ -180,6 +127,14 @@ fn answers_differ(reference: &[Answer], program: &str) -> Option<String> {
     program.get(reference.len()).map(|line| format!("the program says more: `{line}`"))
 }
 
+/// A file of floats beside the reference's.
+fn file_differs(what: &str, reference: &[f64], bytes: &[u8]) -> Option<String> {
+    if bytes.len() % 8 != 0 {
+        return Some(format!("{what}: {} bytes are no whole number of floats", bytes.len()));
+    }
+    floats_differ(what, reference, &floats(bytes))
+}
+
 fn wav_differs(fs: f64, samples: &[f64], wav: Option<&[u8]>) -> Option<String> {
     let Some(wav) = wav else {
         return Some("the program wrote no WAV file".to_string());
@@ -190,7 +145,7 @@ fn wav_differs(fs: f64, samples: &[f64], wav: Option<&[u8]>) -> Option<String> {
         let head = &wav[..wav.len().min(HEADER)];
         return Some(format!("the WAV's header: the reference has {header:02x?}, the program {head:02x?}"));
     }
-    floats_differ("sample", samples, &wav[HEADER..])
+    file_differs("sample", samples, &wav[HEADER..])
 }
 
 /// What was compared, by kind.
@@ -220,11 +175,6 @@ struct Counts {
 
 /// The kind under which files that are refused are counted.
 const REFUSED_FILE: &str = "refused file";
-
-/// The refusal's number in an answer.
-fn refusal_in(answer: &str) -> Option<u8> {
-    answer.strip_prefix("refused ")?.split(':').next()?.parse().ok()
-}
 
 fn add<K: Ord>(counts: &mut BTreeMap<K, u64>, kind: K) {
     *counts.entry(kind).or_insert(0) += 1;
@@ -424,7 +374,7 @@ impl Comparison {
     /// One list on both sides; where its blocks are short, what it gave as the sample has it.
     fn list(&mut self, theme: Theme, turn: u64) -> Option<String> {
         let mut random = Random::new((theme as u64 + 1) << 32 | turn);
-        let list = lists::list(&mut random, theme);
+        let list = lists::list(&mut random, theme, 0);
         let (by_input, with_forces) = (turn % 5 == 0, turn % 8 != 0);
         let answers = console::answers(&list.instrument, &list.script);
         let made = self.rehearse.run(&list.instrument.bytes(), &list.script, by_input, with_forces);
@@ -433,7 +383,7 @@ impl Comparison {
         let difference = answers_differ(&answers, &made.answers)
             .or_else(|| wav_differs(list.instrument.common.fs, &samples, made.wav.as_deref()))
             .or_else(|| match &made.forces {
-                Some(bytes) => floats_differ("force", &forces, bytes),
+                Some(bytes) => file_differs("force", &forces, bytes),
                 None if with_forces => Some("the program wrote no forces".to_string()),
                 None => None,
             });
@@ -473,17 +423,11 @@ impl Comparison {
 fn main() {
     let arguments: Vec<String> = std::env::args().skip(1).collect();
     let Some(([program, folder], options)) = arguments.split_first_chunk() else {
-        fail("usage: session PROGRAM FOLDER [--end] [--store SAMPLE]".to_string());
+        fail("usage: session PROGRAM FOLDER [--store SAMPLE]".to_string());
     };
     let store = options.iter().position(|o| o == "--store").map(|i| options[i + 1].clone());
     let rehearse = Rehearse { program: Path::new(program).to_path_buf(), folder: Path::new(folder).to_path_buf() };
     let mut comparison = Comparison { rehearse, counts: Counts::default(), sample: Vec::new() };
-    if options.iter().any(|o| o == "--end") {
-        let _ = comparison.list(Theme::End, 0);
-        comparison.counts.report();
-        println!("the list to the last position does not differ");
-        exit(0);
-    }
     for (theme, count, most_stored) in LISTS {
         let short: Vec<String> = (0..count).filter_map(|turn| comparison.list(theme, turn)).collect();
         comparison.sample.extend(short.into_iter().take(most_stored));

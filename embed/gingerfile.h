@@ -27,7 +27,7 @@
     8       work memory has fewer cells than gingerfile_read says
     9       scratch has fewer cells than gingerfile_read says, which is one for each string
    10       the trace is shorter than the output
-   11       t + m, p or a position exceeds 2,000,000,000
+   11       t + m, p or a position exceeds GINGERFILE_END
    12       the score has 64 events
    13       a velocity is NaN or outside -100 to 100
    14       the index has no event
@@ -69,6 +69,9 @@ enum {
        position, the words are refused as 7. Counts past the instrument's keys may be anything and decide nothing. */
     GINGERFILE_CONTACT_SAMPLES = 594
 };
+
+/* The last position, 2 to the power of 53, so that a double has every position too. Positions and counts are of 64 bits. */
+#define GINGERFILE_END UINT64_C(9007199254740992)
 
 /* Bytes of stack that every call has room in, below the frame that it is made in; and what to give a thread that makes calls,
    which has its own needs beside them. */

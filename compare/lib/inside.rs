@@ -161,6 +161,15 @@ pub fn part(piano: &Piano) -> Vec<f64> {
     cells
 }
 
+/// Every line begins at the cell that it has reached at position t: a silent piano that has stood there all the while.
+pub fn stand_at(piano: &mut Piano, t: u64) {
+    for s in piano.keys.iter_mut().flat_map(|k| &mut k.strings) {
+        for line in [&mut s.a_r, &mut s.a_l, &mut s.b_r, &mut s.b_l, &mut s.c_r, &mut s.c_l] {
+            line.idx = (t % line.buf.len() as u64) as usize;
+        }
+    }
+}
+
 /// The lines get the cells that stand for them in a part of work memory.
 pub fn set_lines(piano: &mut Piano, part: &[f64]) {
     let mut at = 0;

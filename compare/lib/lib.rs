@@ -1,6 +1,7 @@
 //! What the comparisons with the Rust and the benches share: the Rust's models, the proved functions under the names that
 //! their libraries export, instruments in ordinary Rust, and numbers drawn from a fixed seed.
 
+pub mod calls;
 pub mod common;
 pub mod contacts;
 pub mod design;

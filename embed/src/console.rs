@@ -19,6 +19,9 @@ pub const PIANO: usize = 546;
 pub const CONTACT_SAMPLES: usize = 594;
 const PEAK_FORCE: usize = 615;
 
+/// The last position, `GINGERFILE_END` of `gingerfile.h`: above it lies [`PAST_END`](Refusal::PAST_END). An `f64` has every position too.
+pub const END: u64 = 9_007_199_254_740_992;
+
 /// Bytes of stack that a call needs below the caller's frame, `GINGERFILE_STACK` of `gingerfile.h`. A thread of 64 KiB has
 /// them beside its own.
 pub const STACK: usize = 53_248;

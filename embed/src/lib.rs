@@ -46,7 +46,7 @@ mod float;
 mod refusal;
 mod weights;
 
-pub use console::{Console, Edited, Event, KeyEnergies, Played, CONTACT_SAMPLES, PIANO, STACK, T, WORDS};
+pub use console::{Console, Edited, Event, KeyEnergies, Played, CONTACT_SAMPLES, END, PIANO, STACK, T, WORDS};
 pub use decimator::{decimate, decimate_into, decimated_length};
 pub use refusal::Refusal;
 pub use weights::{adjust, adjust_into, LONGEST_FILE};

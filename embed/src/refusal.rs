@@ -52,7 +52,7 @@ refusals! {
     8 WORK "work memory is too short", "Work memory has another length than the instrument asks for";
     9 SCRATCH "scratch is too short", "Scratch is too short; a [`Console`](crate::Console) has enough";
     10 TRACE "the trace is shorter than the output", "The trace is shorter than the output";
-    11 PAST_END "beyond the last position", "A position would lie above 2,000,000,000";
+    11 PAST_END "beyond the last position", "A position would lie above [`END`](crate::END), 9,007,199,254,740,992";
     12 SCORE_FULL "the score is full", "The score has 64 events";
     13 VELOCITY "the velocity is not from -100 to 100", "A velocity is NaN or outside −100 to 100";
     14 NO_EVENT "no event has this index", "The index has no event";

@@ -2,7 +2,7 @@
 
 mod common;
 
-use gingerfile::{Console, Refusal, CONTACT_SAMPLES, LONGEST_FILE, PIANO, STACK, T, WORDS};
+use gingerfile::{Console, Refusal, CONTACT_SAMPLES, END, LONGEST_FILE, PIANO, STACK, T, WORDS};
 use std::error::Error;
 use std::fs::read_to_string;
 
@@ -69,6 +69,22 @@ fn the_header_has_the_same_numbers() {
     let names = ["WORDS", "T", "PIANO", "CONTACT_SAMPLES", "STACK", "LONGEST_FILE"];
     let numbers = names.map(|name| number(&format!("GINGERFILE_{name}")));
     assert_eq!(numbers, [WORDS, T, PIANO, CONTACT_SAMPLES, STACK, LONGEST_FILE]);
+}
+
+/// The end of all positions: the header's, the wrapper's, the code's and the definition's.
+#[test]
+fn the_end_is_one_number() {
+    let number = |path: &str, before: &str| -> u64 {
+        let text = file(path);
+        let rest = text.split(before).nth(1).unwrap_or_else(|| panic!("{path} has no {before}"));
+        rest.split(|c: char| !c.is_ascii_digit()).next().unwrap().parse().unwrap()
+    };
+    let places = [
+        ("gingerfile.h", "#define GINGERFILE_END UINT64_C("),
+        ("../crates/score_edits/src/lib.rt", "pub const END: u64 = "),
+        ("../crates/positions/specs/Positions.antt", "\nend = "),
+    ];
+    assert_eq!(places.map(|(path, before)| number(path, before)), [END; 3]);
 }
 
 /// `piano` is the instrument that the program `rehearse` has inside, as a file.

@@ -4,7 +4,7 @@ mod common;
 
 use common::{bits, instrument, key_contacts, play, refused_files, Played, Strings, KEY, LEAST, PIANO};
 use gingerfile::{decimate, decimate_into, decimated_length, Console, Edited, Event, Refusal};
-use gingerfile::{CONTACT_SAMPLES, PIANO as NOW, T, WORDS};
+use gingerfile::{CONTACT_SAMPLES, END, PIANO as NOW, T, WORDS};
 
 /// Where `gingerfile.h` has the events and the cues, and how many words each is.
 const EVENTS: usize = 2;
@@ -99,8 +99,11 @@ fn calls_are_refused_by_number_and_change_nothing() {
     let (mut out, mut trace) = ([7.0; 10], [8.0; 9]);
     refused(&mut console, Refusal::TRACE, |c| c.play(&mut out, &mut trace));
     assert_eq!((out, trace), ([7.0; 10], [8.0; 9]));
-    refused(&mut console, Refusal::PAST_END, |c| c.go(2_000_000_001));
-    refused(&mut console, Refusal::PAST_END, |c| c.insert(2_000_000_001, STRIKE));
+    for past in [END + 1, u64::MAX] {
+        refused(&mut console, Refusal::PAST_END, |c| c.go(past));
+        refused(&mut console, Refusal::PAST_END, |c| c.insert(past, STRIKE));
+    }
+    refused(&mut console, Refusal::REPLAY, |c| c.go(END));
     refused(&mut console, Refusal::REPLAY, |c| c.go(1_010 + 1_000_001));
     refused(&mut console, Refusal::NO_EVENT, |c| c.remove(5));
     for velocity in [100.5, -100.5, f64::NAN] {
@@ -491,15 +494,69 @@ fn what_is_restored_is_tested() {
     // a hammer flies on the sixth key: no session of an instrument with one key
     assert_eq!((words[NOW + 65], words[NOW + 66]), (1, 5));
     assert_eq!(restored(&instrument(&LEAST), &words, &work), Err(Refusal::RECORD));
-    let mut later = words.clone();
-    later[T] = 2_000_000_001;
-    assert_eq!(restored(PIANO, &later, &work), Err(Refusal::RECORD));
+    for (t, answer) in [(END, Ok(())), (END + 1, Err(Refusal::RECORD)), (u64::MAX, Err(Refusal::RECORD))] {
+        let mut later = words.clone();
+        later[T] = t;
+        assert_eq!(restored(PIANO, &later, &work), answer, "t {t}");
+    }
 
     let mut again = Console::restore(PIANO, &words, &work).unwrap();
     assert_eq!(play(&mut again, 3_000), play(&mut console, 3_000));
     assert_eq!(again.go(900), Ok(0));
     console.go(900).unwrap();
     assert_eq!(play(&mut again, 3_000), play(&mut console, 3_000));
+}
+
+/// Handed in at a position: in silence, with a cue there and a strike a little later.
+fn silent_at(base: u64) -> Console {
+    let mut console = Console::open(PIANO).unwrap();
+    let mut words = console.words().to_vec();
+    words[T] = base;
+    console.set_words(&words).unwrap();
+    console.cue().unwrap();
+    console.insert(base + 10, STRIKE).unwrap();
+    console
+}
+
+#[test]
+fn a_session_plays_to_the_last_position() {
+    let base = END - 1_000;
+    let (mut near, mut far) = (silent_at(0), silent_at(base));
+    for console in [&mut near, &mut far] {
+        console.play(&mut [0.0; 600], &mut [0.0; 600]).unwrap();
+        console.cue().unwrap();
+    }
+    assert_eq!((far.position(), far.contact_samples()), (END - 400, near.contact_samples()));
+    assert_eq!(far.cues().collect::<Vec<u64>>(), [base, END - 400]);
+    assert_eq!(far.events().collect::<Vec<(u64, Event)>>(), [(base + 10, STRIKE)]);
+    refused(&mut far, Refusal::PAST_END, |c| play(c, 401));
+    assert_eq!(play(&mut far, 400), play(&mut near, 400));
+    assert_eq!(far.position(), END);
+    refused(&mut far, Refusal::PAST_END, |c| play(c, 1));
+    refused(&mut far, Refusal::PAST_END, |c| c.go(END + 1));
+    refused(&mut far, Refusal::PAST_END, |c| c.insert(END + 1, STRIKE));
+    assert_eq!(far.go(END - 100), Ok(300));
+    assert_eq!(near.go(900), Ok(300));
+    assert_eq!(play(&mut far, 100), play(&mut near, 100));
+    assert_eq!(far.insert(END, STRIKE), Ok(Edited { t: END, dropped: 0 }));
+    assert_eq!(far.insert(END - 500, STRIKE), Ok(Edited { t: base, dropped: 1 }));
+    assert_eq!(far.contact_samples(), 0);
+}
+
+/// A count of all samples up to the position, near the end, grows by those in contact.
+#[test]
+fn counts_are_of_64_bits() {
+    let mut few = silent_at(END - 1_000);
+    let mut words = few.words().to_vec();
+    words[CONTACT_SAMPLES] = END - 1_000;
+    let mut many = Console::restore(PIANO, &words, few.work()).unwrap();
+    let of_few = few.play(&mut [0.0; 1_000], &mut [0.0; 1_000]).unwrap();
+    let of_many = many.play(&mut [0.0; 1_000], &mut [0.0; 1_000]).unwrap();
+    assert!(of_few.contact_samples > 0);
+    assert_eq!(of_many.contact_samples, END - 1_000 + of_few.contact_samples);
+    assert_eq!(many.contact_samples(), of_many.contact_samples);
+    words[CONTACT_SAMPLES] += 1;
+    assert_eq!(Console::restore(PIANO, &words, many.work()).map(|_| ()), Err(Refusal::RECORD));
 }
 
 /// In place, without memory of its own.

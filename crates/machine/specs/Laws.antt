@@ -14,10 +14,10 @@ use Rattle.score.specs.declared.TimedEvent.{TimedEvent}
 use Rattle.score.specs.Score.{noEvent}
 use Rattle.positions.specs.Positions.{end, isIn, others, upTo, greatest, distinct}
 use Rattle.positions.specs.Laws.{and-both, true-or-false, in-front, in-cons, in-cases, in-none, in-upTo, greatest-bound, greatest-upTo, distinct-upTo}
-use Rattle.score_edits.specs.Edits.{soundVelocity, soundEvent, soundScore, placed, removed}
+use Rattle.score_edits.specs.Edits.{soundVelocity, soundEventTo, soundScore, soundScoreTo, placed, removed}
 use Rattle.score_edits.specs.Laws.{length-placed, length-removed, sound-placed, sound-removed, sound-position}
 use Rattle.machine.specs.Refusals.{refuseIf, orElse, scratchCells, playRefusal, cueRefusal, goRefusal, insertRefusal, removeRefusal}
-use Rattle.machine.specs.Machine.{Machine, Call, Reply, opened, startOf, settled, edit, unless, does, final, replies}
+use Rattle.machine.specs.Machine.{Machine, Call, Reply, opened, startOf, settled, edit, unless, does, doesTo, final, finalTo, replies, repliesTo}
 
 -- ---- tests in a row
 
@@ -73,7 +73,7 @@ pub record SoundMachine (p : Machine) : Type 0 where
   pub apart : distinct (p .cues) ≡ true
 
 pub sound-opened : SoundMachine opened
-unfolding soundScore distinct
+unfolding soundScoreTo distinct
 sound-opened =
     record { inside = omega arith; score = refl; few = omega arith; below = λ x e. true-or-false (isIn x []) e (in-none x); apart = refl }
 
@@ -121,7 +121,7 @@ module _ (p : Machine) (s : SoundMachine p) where
   unless-sound (suc n) done h = s
 
   sound-insert : (e : TimedEvent) → insertRefusal (length (p .score)) e ≡ 0 → SoundMachine (edit p (placed (p .score) e) (e .position) .0)
-  unfolding soundEvent
+  unfolding soundEventTo
   sound-insert e x =
       let a = insert-passed (length (p .score)) e x in
       sound-edit (placed (p .score) e) (e .position)
@@ -136,7 +136,7 @@ module _ (p : Machine) (s : SoundMachine p) where
       (omega (arith, length-removed (p .score) index a, s .few)) (sound-position (p .score) index noEvent (s .score) a)
 
   pub sound-does : (i : Instrument) (c : Call) → SoundMachine (does i p c .0)
-  unfolding does
+  unfolding doesTo
   sound-does i (Call.play scratch m trace) =
       unless-sound (playRefusal i (p .t) scratch m trace) _
       (λ e. record { inside = play-passed i (p .t) scratch m trace e .2; score = s .score; few = s .few; below = s .below; apart = s .apart })
@@ -181,7 +181,7 @@ unless-allowed (suc n) p done h g m e =
     ⊎-elim (λ (z : suc n ≡ 0). absurd (omega arith)) (λ (z : (9 ≤ suc n) × (suc n ≤ 16)). (omega (arith, z .0), omega (arith, z .1))) h
 
 pub allowed-does : (i : Instrument) (p : Machine) (c : Call) → Allowed (does i p c .1)
-unfolding does
+unfolding doesTo
 allowed-does i p (Call.play scratch m trace) =
     unless-allowed (playRefusal i (p .t) scratch m trace) p _
     (numbered-three (ltb scratch (scratchCells i)) (ltb trace m) (ltb end (p .t + m)) 9 10 11 (omega arith, omega arith) (omega arith, omega arith) (omega arith, omega arith))
@@ -218,7 +218,7 @@ pub record Replayed (m : Machine) (p n : ℕ) : Type 0 where
   pub least : (x : ℕ) → x ≤ p → (x ≡ 0) ⊎ (isIn x (m .t ∷ m .cues) ≡ true) → n ≤ p - x
 
 pub go-replays : (i : Instrument) (m : Machine) (scratch p n : ℕ) → does i m (Call.go scratch p) .1 ≡ Reply.went n → Replayed m p n
-unfolding does
+unfolding doesTo
 go-replays i m scratch p n = by-refusal (goRefusal i scratch p (startOf (m .t) (m .cues) p))
   where
     replayed : p - startOf (m .t) (m .cues) p ≡ n → Replayed m p n
@@ -231,18 +231,18 @@ go-replays i m scratch p n = by-refusal (goRefusal i scratch p (startOf (m .t) (
 -- ---- a list of calls
 
 pub sound-final : (i : Instrument) (p : Machine) (cs : List Call) → SoundMachine p → SoundMachine (final i p cs)
-unfolding final
+unfolding finalTo
 sound-final i p [] s = s
 sound-final i p (c ∷ cs) s = sound-final i (does i p c .0) cs (sound-does p s i c)
 
 -- reply k is that of call k, after the first k calls
 pub replies-at : (i : Instrument) (p : Machine) (cs : List Call) (k : ℕ) → k < length cs → getD (replies i p cs) k Reply.cued ≡ does i (final i p (take k cs)) (getD cs k Call.cue) .1
-unfolding replies final
+unfolding repliesTo finalTo
 replies-at i p [] k h = absurd (omega arith)
 replies-at i p (c ∷ cs) zero h = refl
 replies-at i p (c ∷ cs) (suc k) h = replies-at i (does i p c .0) cs k (omega arith)
 
 pub replies-length : (i : Instrument) (p : Machine) (cs : List Call) → length (replies i p cs) ≡ length cs
-unfolding replies
+unfolding repliesTo
 replies-length i p [] = refl
 replies-length i p (c ∷ cs) = ap suc (replies-length i (does i p c .0) cs)

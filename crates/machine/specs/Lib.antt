@@ -1,3 +1,4 @@
 pub mod Refusals
 pub mod Machine
 pub mod Laws
+pub mod Longer

@@ -10,9 +10,9 @@ use Rattle.instrument.specs.declared.Instrument.{Instrument}
 use Rattle.score.specs.declared.TimedEvent.{TimedEvent}
 use Rattle.score.specs.Score.{noEvent}
 use Rattle.render.specs.Render.{renderSamples, renderForces, renderContacts}
-use Rattle.positions.specs.Positions.{isIn, above, upTo, greatest}
+use Rattle.positions.specs.Positions.{end, isIn, above, upTo, greatest}
 use Rattle.score_edits.specs.Edits.{placed, removed}
-use Rattle.machine.specs.Refusals.{playRefusal, cueRefusal, goRefusal, insertRefusal, removeRefusal}
+use Rattle.machine.specs.Refusals.{playRefusalTo, cueRefusal, goRefusalTo, insertRefusalTo, removeRefusal}
 
 -- "a score, a position t and a set of at most four cue positions"
 pub record Machine : Type 0 where
@@ -65,27 +65,37 @@ abbrev pub unless : ℕ → Machine → Machine × Reply → Machine × Reply
 unless zero p done = done
 unless (suc n) p done = (p, Reply.refused (suc n))
 
--- one call
-unfoldable pub does : Instrument → Machine → Call → Machine × Reply
-does i p (Call.play scratch m trace) =
-    unless (playRefusal i (p .t) scratch m trace) p (
+-- one call, where positions end at `top`
+unfoldable pub doesTo : ℕ → Instrument → Machine → Call → Machine × Reply
+doesTo top i p (Call.play scratch m trace) =
+    unless (playRefusalTo top i (p .t) scratch m trace) p (
       record { score = p .score; t = p .t + m; cues = p .cues },
       Reply.played (length (blockForces i (p .score) (p .t) m)) (renderContacts i (p .score) (p .t + m)) (blockSamples i (p .score) (p .t) m) (blockForces i (p .score) (p .t) m),
     )
-does i p Call.cue =
+doesTo top i p Call.cue =
     unless (cueRefusal (p .t) (p .cues)) p (record { score = p .score; t = p .t; cues = cond (isIn (p .t) (p .cues)) (p .cues) (p .t ∷ p .cues) }, Reply.cued)
-does i p (Call.go scratch q) =
-    unless (goRefusal i scratch q (startOf (p .t) (p .cues) q)) p
+doesTo top i p (Call.go scratch q) =
+    unless (goRefusalTo top i scratch q (startOf (p .t) (p .cues) q)) p
     (record { score = p .score; t = q; cues = p .cues }, Reply.went (q - startOf (p .t) (p .cues) q))
-does i p (Call.insert e) = unless (insertRefusal (length (p .score)) e) p (edit p (placed (p .score) e) (e .position))
-does i p (Call.remove index) =
+doesTo top i p (Call.insert e) = unless (insertRefusalTo top (length (p .score)) e) p (edit p (placed (p .score) e) (e .position))
+doesTo top i p (Call.remove index) =
     unless (removeRefusal (length (p .score)) index) p (edit p (removed (p .score) index) (getD (p .score) index noEvent .position))
 
 -- a list of calls: the machine after it, and every reply
-unfoldable pub final : Instrument → Machine → List Call → Machine
-final i p [] = p
-final i p (c ∷ cs) = final i (does i p c .0) cs
+unfoldable pub finalTo : ℕ → Instrument → Machine → List Call → Machine
+finalTo top i p [] = p
+finalTo top i p (c ∷ cs) = finalTo top i (doesTo top i p c .0) cs
 
-unfoldable pub replies : Instrument → Machine → List Call → List Reply
-replies i p [] = []
-replies i p (c ∷ cs) = does i p c .1 ∷ replies i (does i p c .0) cs
+unfoldable pub repliesTo : ℕ → Instrument → Machine → List Call → List Reply
+repliesTo top i p [] = []
+repliesTo top i p (c ∷ cs) = doesTo top i p c .1 ∷ repliesTo top i (doesTo top i p c .0) cs
+
+-- the plain machine, whose end is refusal 11's
+abbrev pub does : Instrument → Machine → Call → Machine × Reply
+does i p c = doesTo end i p c
+
+abbrev pub final : Instrument → Machine → List Call → Machine
+final i p cs = finalTo end i p cs
+
+abbrev pub replies : Instrument → Machine → List Call → List Reply
+replies i p cs = repliesTo end i p cs

@@ -28,9 +28,9 @@ scratchTest i scratch = refuseIf (ltb scratch (scratchCells i)) 9
 abbrev pub traceTest : ℕ → ℕ → ℕ
 traceTest m trace = refuseIf (ltb trace m) 10
 
--- 11. "t + m, p or q exceeds 2,000,000,000."
-abbrev pub endTest : ℕ → ℕ
-endTest x = refuseIf (ltb end x) 11
+-- 11. "t + m, p or q exceeds" the end, here `top`; from document 02, W8, "9,007,199,254,740,992 as the new end"
+abbrev pub endTest : ℕ → ℕ → ℕ
+endTest top x = refuseIf (ltb top x) 11
 
 -- 12. "The score has 64 events."
 abbrev pub fullTest : ℕ → ℕ
@@ -52,18 +52,28 @@ cuesTest t cues = refuseIf (leb 4 (others t cues)) 15
 abbrev pub replayTest : ℕ → ℕ
 replayTest n = refuseIf (ltb 1000000 n) 16
 
--- "play 7 to 11; cue 7, 8, 15; go 7, 8, 9, 11, 16; insert 7, 8, 11, 12, 13; remove 7, 8, 14", here from 9 on
-abbrev pub playRefusal : Instrument → ℕ → ℕ → ℕ → ℕ → ℕ
-playRefusal i t scratch m trace = orElse (scratchTest i scratch) (orElse (traceTest m trace) (endTest (t + m)))
+-- "play 7 to 11; cue 7, 8, 15; go 7, 8, 9, 11, 16; insert 7, 8, 11, 12, 13; remove 7, 8, 14", here from 9 on, where positions end at `top`
+abbrev pub playRefusalTo : ℕ → Instrument → ℕ → ℕ → ℕ → ℕ → ℕ
+playRefusalTo top i t scratch m trace = orElse (scratchTest i scratch) (orElse (traceTest m trace) (endTest top (t + m)))
 
 abbrev pub cueRefusal : ℕ → List ℕ → ℕ
 cueRefusal t cues = cuesTest t cues
 
-abbrev pub goRefusal : Instrument → ℕ → ℕ → ℕ → ℕ
-goRefusal i scratch p start = orElse (scratchTest i scratch) (orElse (endTest p) (replayTest (p - start)))
+abbrev pub goRefusalTo : ℕ → Instrument → ℕ → ℕ → ℕ → ℕ
+goRefusalTo top i scratch p start = orElse (scratchTest i scratch) (orElse (endTest top p) (replayTest (p - start)))
 
-abbrev pub insertRefusal : ℕ → TimedEvent → ℕ
-insertRefusal events e = orElse (endTest (e .position)) (orElse (fullTest events) (velocityTest e))
+abbrev pub insertRefusalTo : ℕ → ℕ → TimedEvent → ℕ
+insertRefusalTo top events e = orElse (endTest top (e .position)) (orElse (fullTest events) (velocityTest e))
 
 abbrev pub removeRefusal : ℕ → ℕ → ℕ
 removeRefusal events index = indexTest index events
+
+-- the end is refusal 11's
+abbrev pub playRefusal : Instrument → ℕ → ℕ → ℕ → ℕ → ℕ
+playRefusal i t scratch m trace = playRefusalTo end i t scratch m trace
+
+abbrev pub goRefusal : Instrument → ℕ → ℕ → ℕ → ℕ
+goRefusal i scratch p start = goRefusalTo end i scratch p start
+
+abbrev pub insertRefusal : ℕ → TimedEvent → ℕ
+insertRefusal events e = insertRefusalTo end events e

@@ -5,9 +5,9 @@ use mathlib.Core.List.{List, [], _∷_}
 use Prim.Native.Nat.{ℕ, suc, max}
 use lib.Dec.{eqb, leb, ltb}
 
--- refusal 11's end: no position lies above it
+-- refusal 11's end, above which no position lies: document 02, W8, "9,007,199,254,740,992 as the new end"
 abbrev pub end : ℕ
-end = 2000000000
+end = 9007199254740992
 
 -- A set of positions is a list of which it is only asked how many members pass a test.
 unfoldable pub count : (ℕ → Bool) → List ℕ → ℕ

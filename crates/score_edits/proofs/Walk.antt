@@ -9,7 +9,7 @@ use lib.ListN.{length, take, drop, getD, drop-of-length-le}
 use lib.Seq.{drop-cons, getD-take, length-take-le}
 use Rattle.score.specs.declared.TimedEvent.{TimedEvent}
 use Rattle.score.specs.Score.{noEvent}
-use Rattle.score_edits.specs.Edits.{mayPrecede, placeOf, soundEvent, soundAfter, soundScore}
+use Rattle.score_edits.specs.Edits.{mayPrecede, placeOf, soundEvent, soundAfter, soundAfterTo, soundScore, soundScoreTo}
 use Rattle.score_edits.specs.Laws.{precede-self}
 
 and-assoc : (a b c : Bool) → ((a && b) && c) ≡ (a && (b && c))
@@ -27,7 +27,7 @@ module _ (l : List TimedEvent) (n i : ℕ) (more : i < n) (fits : n ≤ length l
 
   pub sound-turn : (last : TimedEvent) (sound order alone whole : Bool) → order ≡ mayPrecede last (getD l i noEvent) → alone ≡ soundEvent (getD l i noEvent)
       → (sound && soundAfter last (drop i (take n l))) ≡ whole → ((sound && (order && alone)) && soundAfter (getD l i noEvent) (drop (i + 1) (take n l))) ≡ whole
-  unfolding soundAfter
+  unfolding soundAfterTo
   sound-turn last sound order alone whole eo ea inv =
       rw (add-one, eo, ea) (and-assoc sound _ _ ∙ (rw left-cons at inv))
 
@@ -50,12 +50,12 @@ module _ (l : List TimedEvent) (n i : ℕ) (done : n ≤ i) (fits : n ≤ length
   place-end e inv = let k = rw left-none at inv in omega (arith, k)
 
   sound-end : (last : TimedEvent) (sound whole : Bool) → (sound && soundAfter last (drop i (take n l))) ≡ whole → sound ≡ whole
-  unfolding soundAfter
+  unfolding soundAfterTo
   sound-end last sound whole inv = sym (and-end sound) ∙ (rw left-none at inv)
 
 -- the first event, put before itself, changes nothing
 sound-first : (l : List TimedEvent) (n : ℕ) → soundAfter (getD l 0 noEvent) (take n l) ≡ soundScore (take n l)
-unfolding soundAfter soundScore
+unfolding soundAfterTo soundScoreTo
 sound-first l zero = refl
 sound-first [] (suc n) = refl
 sound-first (x ∷ xs) (suc n) = rw (precede-self x)

@@ -54,14 +54,25 @@ soundVelocity (NoteOff k) = true
 soundVelocity (Pedal d) = true
 soundVelocity (HandDamp k) = true
 
-unfoldable pub soundEvent : TimedEvent → Bool
-soundEvent x = leb (x .position) end && soundVelocity (x .event)
+-- where positions end at `top`
+unfoldable pub soundEventTo : ℕ → TimedEvent → Bool
+soundEventTo top x = leb (x .position) top && soundVelocity (x .event)
 
 -- each event may follow the one before it, and is sound; x stands before the first
-unfoldable pub soundAfter : TimedEvent → List TimedEvent → Bool
-soundAfter x [] = true
-soundAfter x (y ∷ ys) = mayPrecede x y && soundEvent y && soundAfter y ys
+unfoldable pub soundAfterTo : ℕ → TimedEvent → List TimedEvent → Bool
+soundAfterTo top x [] = true
+soundAfterTo top x (y ∷ ys) = mayPrecede x y && soundEventTo top y && soundAfterTo top y ys
 
-unfoldable pub soundScore : List TimedEvent → Bool
-soundScore [] = true
-soundScore (x ∷ xs) = soundEvent x && soundAfter x xs
+unfoldable pub soundScoreTo : ℕ → List TimedEvent → Bool
+soundScoreTo top [] = true
+soundScoreTo top (x ∷ xs) = soundEventTo top x && soundAfterTo top x xs
+
+-- the end is refusal 11's
+abbrev pub soundEvent : TimedEvent → Bool
+soundEvent x = soundEventTo end x
+
+abbrev pub soundAfter : TimedEvent → List TimedEvent → Bool
+soundAfter x l = soundAfterTo end x l
+
+abbrev pub soundScore : List TimedEvent → Bool
+soundScore l = soundScoreTo end l

@@ -13,7 +13,7 @@ use Rattle.score.specs.Score.{eventsAt}
 use Rattle.score.specs.Due.{due, leftAt, Rising, walk-is}
 use Rattle.positions.specs.Positions.{end}
 use Rattle.positions.specs.Laws.{and-true, and-both, true-or-false}
-use Rattle.score_edits.specs.Edits.{rankOf, mayPrecede, RisingRanks, placed, placeOf, removed, soundEvent, soundVelocity, soundAfter, soundScore}
+use Rattle.score_edits.specs.Edits.{rankOf, mayPrecede, RisingRanks, placed, placeOf, removed, soundEvent, soundEventTo, soundVelocity, soundAfter, soundAfterTo, soundScore, soundScoreTo}
 
 -- ---- the order
 
@@ -90,37 +90,37 @@ length-removed (x ∷ xs) (suc k) h = ap suc (length-removed xs k (omega arith))
 
 -- the parts of a passed test
 after-parts : (x y : TimedEvent) (ys : List TimedEvent) → soundAfter x (y ∷ ys) ≡ true → (mayPrecede x y ≡ true) × (soundEvent y ≡ true) × (soundAfter y ys ≡ true)
-unfolding soundAfter
+unfolding soundAfterTo
 after-parts x y ys e =
     let a = and-true (mayPrecede x y && soundEvent y) (soundAfter y ys) e in
     let b = and-true (mayPrecede x y) (soundEvent y) (a .0) in
     (b .0, b .1, a .1)
 
 after-make : (x y : TimedEvent) (ys : List TimedEvent) → mayPrecede x y ≡ true → soundEvent y ≡ true → soundAfter y ys ≡ true → soundAfter x (y ∷ ys) ≡ true
-unfolding soundAfter
+unfolding soundAfterTo
 after-make x y ys a b c = rw (a, b, c)
 
 score-parts : (x : TimedEvent) (xs : List TimedEvent) → soundScore (x ∷ xs) ≡ true → (soundEvent x ≡ true) × (soundAfter x xs ≡ true)
-unfolding soundScore
+unfolding soundScoreTo
 score-parts x xs e = and-true (soundEvent x) (soundAfter x xs) e
 
 score-make : (x : TimedEvent) (xs : List TimedEvent) → soundEvent x ≡ true → soundAfter x xs ≡ true → soundScore (x ∷ xs) ≡ true
-unfolding soundScore
+unfolding soundScoreTo
 score-make x xs a b = rw (a, b)
 
 after-none : (x : TimedEvent) → soundAfter x [] ≡ true
-unfolding soundAfter
+unfolding soundAfterTo
 after-none x = refl
 
 -- what stands after an event is a score
 score-after : (x : TimedEvent) (xs : List TimedEvent) → soundAfter x xs ≡ true → soundScore xs ≡ true
-unfolding soundScore
+unfolding soundScoreTo
 score-after x [] e = refl
 score-after x (y ∷ ys) e = let p = after-parts x y ys e in and-both (soundEvent y) (soundAfter y ys) (p .1) (p .2)
 
 -- the event between is gone
 after-skip : (x y : TimedEvent) (ys : List TimedEvent) → mayPrecede x y ≡ true → soundAfter y ys ≡ true → soundAfter x ys ≡ true
-unfolding soundAfter
+unfolding soundAfterTo
 after-skip x y [] a e = refl
 after-skip x y (z ∷ zs) a e = let p = after-parts y z zs e in after-make x z zs (precede-both x y z a (p .0)) (p .1) (p .2)
 
@@ -157,7 +157,7 @@ sound-removed (x ∷ xs) (suc k) h = let p = score-parts x xs h in score-make x 
 
 -- each event of a sound score lies at or before the end
 pub sound-position : (l : List TimedEvent) (k : ℕ) (d : TimedEvent) → soundScore l ≡ true → k < length l → getD l k d .position ≤ end
-unfolding soundEvent
+unfolding soundEventTo
 sound-position [] k d e h = absurd (omega arith)
 sound-position (x ∷ xs) zero d e h =
     leb-true (x .position) end (and-true (leb (x .position) end) (soundVelocity (x .event)) (score-parts x xs e .0) .0)

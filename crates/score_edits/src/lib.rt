@@ -8,7 +8,7 @@ use score::Event;
 use score::TimedEvent;
 
 // No position lies above the end (refusal 11).
-pub const END: u64 = 2000000000;
+pub const END: u64 = 9007199254740992;
 
 // Where an event's kind stands among those of its position: a release acts first, a strike last. The kind's number that crosses to C is another.
 fn rank_of(event: Event) -> u64

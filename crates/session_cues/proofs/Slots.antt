@@ -12,7 +12,7 @@ use lib.Seq.{drop-cons, take-suc, take-suc-set, take-all}
 use Rattle.positions.specs.Positions.{count, isIn, above, upTo, greatest}
 use Rattle.positions.specs.Laws.{count-if}
 use Rattle.session_cues.specs.declared.Cue.{Cue}
-use Rattle.session_cues.specs.Cues.{keptOf, standsAt, slotAt, freeSlot, nearer, lostOf, soundCue, soundCues}
+use Rattle.session_cues.specs.Cues.{keptOf, standsAt, slotAt, freeSlot, nearer, lostOf, soundCue, soundCues, soundCuesTo}
 use Rattle.session_cues.specs.Laws.{slot-in}
 
 and-assoc : (a b c : Bool) → ((a && b) && c) ≡ (a && (b && c))
@@ -97,10 +97,11 @@ module _ (cs : List Cue) (i : ℕ) (d : Cue) (more : i < length cs) where
 
   pub sound-turn : (keys : ℕ) (sound alone again whole : Bool) → alone ≡ soundCue keys (getD cs i d) → again ≡ isIn (getD cs i d .position) (keptOf (drop (i + 1) cs))
       → (sound && soundCues keys (drop i cs)) ≡ whole → ((sound && (alone && not (getD cs i d .kept && again))) && soundCues keys (drop (i + 1) cs)) ≡ whole
-  unfolding soundCues
+  unfolding soundCuesTo
   sound-turn keys sound alone again whole ea eg inv = rw (eg, ea, add-one) (and-assoc sound _ _ ∙ (rw left-cons at inv))
 
-  pub map-turn : (f : Cue → Cue) (out : List Cue) (c : Cue) → c ≡ f (getD cs i d) → length out ≡ length cs → take i out ≡ take i (map f cs) → take (i + 1) (set out i c) ≡ take (i + 1) (map f cs)
+  pub map-turn : (f : Cue → Cue) (out : List Cue) (c : Cue) → c ≡ f (getD cs i d) → length out ≡ length cs → take i out ≡ take i (map f cs)
+      → take (i + 1) (set out i c) ≡ take (i + 1) (map f cs)
   map-turn f out c e long inv =
       rw (add-one, take-suc-set out i c (omega arith), inv, e, ← (List·getD-map f cs i d)) (sym (take-suc (map f cs) i (f d) (omega (arith, length-map cs f))))
 
@@ -126,7 +127,7 @@ module _ (cs : List Cue) (i : ℕ) (done : length cs ≤ i) where
   lost-end q n whole inv = let k = rw left-none at inv in omega (arith, k)
 
   pub sound-end : (keys : ℕ) (sound whole : Bool) → (sound && soundCues keys (drop i cs)) ≡ whole → sound ≡ whole
-  unfolding soundCues
+  unfolding soundCuesTo
   sound-end keys sound whole inv = sym (and-end sound) ∙ (rw left-none at inv)
 
   pub map-end : (f : Cue → Cue) (out : List Cue) → length out ≡ length cs → take i out ≡ take i (map f cs) → out ≡ map f cs

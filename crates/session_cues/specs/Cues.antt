@@ -37,13 +37,21 @@ dropAbove q c = record { kept = c .kept && leb (c .position) q; position = c .po
 unfoldable pub soundPiano : ℕ → ℕ → Piano → Bool
 soundPiano keys x p = leb (contactsOf keys p) x && hammerOn keys (p .motion .hammer)
 
-unfoldable pub soundCue : ℕ → Cue → Bool
-soundCue keys c = not (c .kept) || (leb (c .position) end && soundPiano keys (c .position) (c .piano))
+-- where positions end at `top`
+unfoldable pub soundCueTo : ℕ → ℕ → Cue → Bool
+soundCueTo top keys c = not (c .kept) || (leb (c .position) top && soundPiano keys (c .position) (c .piano))
 
 -- each is sound, and none is kept again in a later slot
-unfoldable pub soundCues : ℕ → List Cue → Bool
-soundCues keys [] = true
-soundCues keys (c ∷ cs) = soundCue keys c && not (c .kept && isIn (c .position) (keptOf cs)) && soundCues keys cs
+unfoldable pub soundCuesTo : ℕ → ℕ → List Cue → Bool
+soundCuesTo top keys [] = true
+soundCuesTo top keys (c ∷ cs) = soundCueTo top keys c && not (c .kept && isIn (c .position) (keptOf cs)) && soundCuesTo top keys cs
+
+-- the end is refusal 11's
+abbrev pub soundCue : ℕ → Cue → Bool
+soundCue keys c = soundCueTo end keys c
+
+abbrev pub soundCues : ℕ → List Cue → Bool
+soundCues keys cs = soundCuesTo end keys cs
 
 -- ---- one slot's part in a search and in a count
 

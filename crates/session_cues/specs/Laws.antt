@@ -12,7 +12,7 @@ use Rattle.score.specs.Contacts.{contactsOf, hammerOn}
 use Rattle.positions.specs.Positions.{end, count, isIn, upTo, distinct, Same}
 use Rattle.positions.specs.Laws.{and-true, and-both, true-or-false, count-swap, in-front, in-cons, in-none}
 use Rattle.session_cues.specs.declared.Cue.{Cue}
-use Rattle.session_cues.specs.Cues.{keptOf, standsAt, slotAt, freeSlot, dropAbove, soundPiano, soundCue, soundCues}
+use Rattle.session_cues.specs.Cues.{keptOf, standsAt, slotAt, freeSlot, dropAbove, soundPiano, soundCue, soundCueTo, soundCues, soundCuesTo}
 
 -- ---- what the slots keep
 
@@ -142,7 +142,7 @@ not-held false c h = refl
 -- what holds of a kept cue that passed
 pub cue-sound : (keys : ℕ) (cs : List Cue) (j : ℕ) (d : Cue) → soundCues keys cs ≡ true → j < length cs → getD cs j d .kept ≡ true
     → soundPiano keys (getD cs j d .position) (getD cs j d .piano) ≡ true
-unfolding soundCues soundCue
+unfolding soundCuesTo soundCueTo
 cue-sound keys [] j d e h k = absurd (omega arith)
 cue-sound keys (c ∷ cs) zero d e h k =
     let a = and-true (soundCue keys c && not (c .kept && isIn (c .position) (keptOf cs))) (soundCues keys cs) e in
@@ -165,7 +165,7 @@ distinct-if false x l e = (λ k. true-or-false false k refl, e)
 pub cues-pass : (keys : ℕ) (cs : List Cue) (d : Cue) → distinct (keptOf cs) ≡ true
     → ((j : ℕ) → j < length cs → getD cs j d .kept ≡ true → (getD cs j d .position ≤ end) × (soundPiano keys (getD cs j d .position) (getD cs j d .piano) ≡ true))
     → soundCues keys cs ≡ true
-unfolding soundCues soundCue keptOf
+unfolding soundCuesTo soundCueTo keptOf
 cues-pass keys [] d e h = refl
 cues-pass keys (c ∷ cs) d e h =
     let p = distinct-if (c .kept) (c .position) (keptOf cs) e in

@@ -16,7 +16,7 @@ use Rattle.machine.specs.Refusals.{refuseIf, orElse, scratchCells, playRefusal,
 use Rattle.machine.specs.Machine.{startOf}
 use Rattle.machine.specs.Laws.{else-zero, test-passed, play-passed, cue-passed, go-passed, insert-passed, remove-passed}
 use Rattle.session_record.specs.declared.Session.{Session}
-use Rattle.session_record.specs.Record.{scoreOf, soundSession, soundRecords, workTest, recordRefusal, openRefusal}
+use Rattle.session_record.specs.Record.{scoreOf, soundSession, soundSessionTo, soundRecords, workTest, recordRefusal, openRefusal}
 use Rattle.session_record.specs.Record.{playNumber, cueNumber, goNumber, insertNumber, removeNumber}
 
 -- 7 and 8
@@ -30,7 +30,7 @@ pub record Passed (i : Instrument) (s : Session) (cells : ℕ) : Type 0 where
   pub room : 5 * partCells i ≤ cells
 
 pub passed : (i : Instrument) (s : Session) (cells : ℕ) → recordRefusal i s cells ≡ 0 → Passed i s cells
-unfolding recordRefusal soundSession
+unfolding recordRefusal soundSessionTo
 passed i s cells e =
     let keys = i .«key_count» in
     let a = else-zero (refuseIf (not (soundRecords i s)) 7) (workTest i cells) e in
@@ -50,7 +50,7 @@ passed i s cells e =
     }
 
 pub passes : (i : Instrument) (s : Session) (cells : ℕ) → Passed i s cells → recordRefusal i s cells ≡ 0
-unfolding recordRefusal soundSession
+unfolding recordRefusal soundSessionTo
 passes i s cells p =
     rw (p .sound, le-leb (s .count) 64 (p .few), le-leb (s .t) end (p .inside), p .score, p .now, p .kept, le-ltb cells (5 * partCells i) (p .room))
 

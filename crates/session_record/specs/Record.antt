@@ -10,8 +10,8 @@ use Rattle.instrument.specs.Valid.{valid}
 use Rattle.instrument.specs.Work.{partCells}
 use Rattle.score.specs.declared.TimedEvent.{TimedEvent}
 use Rattle.positions.specs.Positions.{end}
-use Rattle.score_edits.specs.Edits.{soundScore}
-use Rattle.session_cues.specs.Cues.{keptOf, soundPiano, soundCues}
+use Rattle.score_edits.specs.Edits.{soundScoreTo}
+use Rattle.session_cues.specs.Cues.{keptOf, soundPiano, soundCuesTo}
 use Rattle.machine.specs.Refusals.{refuseIf, orElse, playRefusal, cueRefusal, goRefusal, insertRefusal, removeRefusal}
 use Rattle.machine.specs.Machine.{startOf}
 use Rattle.session_record.specs.declared.Session.{Session}
@@ -20,11 +20,15 @@ use Rattle.session_record.specs.declared.Session.{Session}
 abbrev pub scoreOf : Session → List TimedEvent
 scoreOf s = take (s .count) (s .events)
 
--- of an instrument with so many keys
-unfoldable pub soundSession : ℕ → Session → Bool
-soundSession keys s =
+-- of an instrument with so many keys, where positions end at `top`
+unfoldable pub soundSessionTo : ℕ → ℕ → Session → Bool
+soundSessionTo top keys s =
     leb (s .count) 64
-    && (leb (s .t) end && soundScore (scoreOf s) && soundPiano keys (s .t) (s .piano) && soundCues keys (s .cues))
+    && (leb (s .t) top && soundScoreTo top (scoreOf s) && soundPiano keys (s .t) (s .piano) && soundCuesTo top keys (s .cues))
+
+-- the end is refusal 11's
+abbrev pub soundSession : ℕ → Session → Bool
+soundSession keys s = soundSessionTo end keys s
 
 -- 7
 abbrev pub soundRecords : Instrument → Session → Bool

@@ -16,7 +16,7 @@ use Rattle.render.specs.Render.{silentPiano, silence}
 use Rattle.render.specs.Laws.{render-sum}
 use Rattle.positions.specs.Positions.{count}
 use Rattle.positions.specs.Laws.{true-or-false}
-use Rattle.machine.specs.Machine.{Machine, Call, Reply, opened, does, final, replies}
+use Rattle.machine.specs.Machine.{Machine, Call, Reply, opened, does, final, finalTo, replies, repliesTo}
 use Rattle.score_edits.specs.Laws.{sound-walk, sound-ranks}
 use Rattle.machine.specs.Laws.{sound-opened, sound-final, allowed-does, go-replays, replies-at, replies-length}
 use Rattle.session_cues.specs.Cues.{keptOf}
@@ -36,7 +36,7 @@ use Rattle.session_theorem.specs.Steps.{call-step}
 
 runs-follow : (i : Instrument) {s s″ : Session} {work work″ : List Float} {cs : List Call} {rs : List Reply} → Runs i s work cs rs s″ work″ → (p : Machine) → Stands i s work p
     → (rs ≡ replies i p cs) × Stands i s″ work″ (final i p cs)
-unfolding replies final
+unfolding repliesTo finalTo
 runs-follow i Runs.done p g = (refl, g)
 runs-follow i (Runs.next {s = s} {work = work} c out trace r work′ out′ trace′ h rest) p g =
     let t = call-step i s work p g c out trace r work′ out′ trace′ h in

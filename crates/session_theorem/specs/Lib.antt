@@ -9,3 +9,4 @@ pub mod PastKeys
 pub mod Past
 pub mod Scratch
 pub mod Beyond
+pub mod Longer

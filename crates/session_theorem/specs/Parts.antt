@@ -18,7 +18,7 @@ use Rattle.render.specs.Laws.{samples-then, forces-then, render-then}
 use Rattle.positions.specs.Positions.{end, isIn}
 use Rattle.positions.specs.Laws.{in-front, in-cons, in-cases, greatest-upTo}
 use Rattle.machine.specs.Refusals.{playRefusal, goRefusal}
-use Rattle.machine.specs.Machine.{Machine, Call, Reply, startOf, does, blockSamples, blockForces}
+use Rattle.machine.specs.Machine.{Machine, Call, Reply, startOf, does, doesTo, blockSamples, blockForces}
 use Rattle.machine.specs.Laws.{play-passed, go-passed, go-least}
 use Rattle.session_theorem.specs.Steps.{greatest-held, block-samples, block-forces}
 
@@ -86,7 +86,7 @@ pub record GoParts (i : Instrument) (m : Machine) (scratch q p s : ℕ) : Type 0
 -- a go to p that is not refused, cut anywhere between its start and p: the parts leave what the whole leaves, and their numbers add up to its number
 pub go-parts : (i : Instrument) (m : Machine) (scratch q p : ℕ) → startOf (m .t) (m .cues) p ≤ q → q ≤ p → goRefusal i scratch p (startOf (m .t) (m .cues) p) ≡ 0
     → GoParts i m scratch q p (startOf (m .t) (m .cues) p)
-unfolding does
+unfolding doesTo
 go-parts i m scratch q p from to e =
     let s = startOf (m .t) (m .cues) p in
     let fine = go-passed i scratch p s e in
@@ -149,7 +149,7 @@ pub play-parts : (i : Instrument) (m : Machine) (scratch a b n k trace : ℕ) �
     → PlayParts i m scratch a b n k trace (renderContacts i (m .score) (m .t + a)) (renderContacts i (m .score) (m .t + (a + b)))
     (blockSamples i (m .score) (m .t) a) (blockSamples i (m .score) (m .t + a) b)
     (blockForces i (m .score) (m .t) a) (blockForces i (m .score) (m .t + a) b)
-unfolding does
+unfolding doesTo
 play-parts i m scratch a b n k trace ha hb e =
     let fine = play-passed i (m .t) scratch (a + b) trace e in
     let there : m .t + a + b ≡ m .t + (a + b) = omega arith in

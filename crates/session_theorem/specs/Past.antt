@@ -25,10 +25,10 @@ use Rattle.positions.specs.Laws.{and-true}
 use Rattle.score_edits.specs.Edits.{placed, removed}
 use Rattle.machine.specs.Machine.{Call, Reply, startOf, settled}
 use Rattle.session_cues.specs.declared.Cue.{Cue}
-use Rattle.session_cues.specs.Cues.{keptOf, standsAt, slotAt, freeSlot, dropAbove, soundCue, soundCues}
+use Rattle.session_cues.specs.Cues.{keptOf, standsAt, slotAt, freeSlot, dropAbove, soundCue, soundCueTo, soundCues, soundCuesTo}
 use Rattle.session_cues.specs.Laws.{slot-in, slot-kept}
 use Rattle.session_record.specs.declared.Session.{Session}
-use Rattle.session_record.specs.Record.{scoreOf, soundSession, recordRefusal}
+use Rattle.session_record.specs.Record.{scoreOf, soundSessionTo, recordRefusal}
 use Rattle.session_record.specs.Laws.{Passed, CuePassed, passed-play, passed-cue, passed-go, passed-insert, passed-remove}
 use Rattle.session.specs.declared.Outcome.{Outcome}
 use Rattle.session.specs.Calls.{keptBy, emptyCue, cueAt, stateNow, stateCue, heldAt, refusedWith, Plays, PlayMeets, Cues, CueMeets, Goes, GoMeets, Edits, InsertMeets, RemoveMeets}
@@ -77,7 +77,7 @@ module _ (keys : ℕ) where
   same-kept (SameCues.free e f h) = rw (e, f) (same-kept h)
 
   same-sound : {a b : List Cue} → SameCues keys a b → soundCues keys a ≡ soundCues keys b
-  unfolding soundCues soundCue
+  unfolding soundCuesTo soundCueTo
   same-sound SameCues.no-more = refl
   same-sound (SameCues.kept {c = c} {d = d} {a = a} e h) =
       ap (λ (x : Cue). soundCue keys c && not (x .kept && isIn (x .position) (keptOf a)) && soundCues keys a) e
@@ -121,7 +121,7 @@ module _ (i : Instrument) (s : Session) (work : List Float) (s′ : Session) (wo
   keys = i .«key_count»
 
   pub same-refusal : recordRefusal i s (length work) ≡ recordRefusal i s′ (length work′)
-  unfolding recordRefusal soundSession
+  unfolding recordRefusal soundSessionTo
   same-refusal =
       rw (a .score, a .number, a .position, same-sound-piano keys (s′ .t) (s .piano) (s′ .piano) (a .piano), same-sound keys (a .cues), a .memory .cells) refl
 

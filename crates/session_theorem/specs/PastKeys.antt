@@ -26,7 +26,7 @@ use Rattle.score.specs.Contacts.{contactsOf}
 use Rattle.render.specs.Steps.{stateAfter, values-each}
 use Rattle.render.specs.Render.{Stepped, stepped, sampleWith, sampleAt, run, samples, forces}
 use Rattle.session_cues.specs.declared.Cue.{Cue}
-use Rattle.session_cues.specs.Cues.{soundPiano, soundCue}
+use Rattle.session_cues.specs.Cues.{soundPiano, soundCue, soundCueTo}
 
 -- a piano, a state and a cue with the counts of so many keys alone
 abbrev pub ofKeys : ℕ → Piano → Piano
@@ -68,7 +68,7 @@ module _ (keys : ℕ) where
 
   -- so are cues: it reads of one its position, its piano by the same test, and whether it is kept
   pub same-sound-cue : (c d : Cue) → cueOfKeys keys c ≡ cueOfKeys keys d → soundCue keys c ≡ soundCue keys d
-  unfolding soundCue
+  unfolding soundCueTo
   same-sound-cue c d e =
       let kept : c .kept ≡ d .kept = ap (λ (y : Cue). y .kept) e in
       let position : c .position ≡ d .position = ap (λ (y : Cue). y .position) e in

@@ -26,7 +26,7 @@ use Rattle.positions.specs.Laws.{and-true, same-cons, same-upTo, in-front, in-c
 use Rattle.score_edits.specs.Edits.{placed, removed}
 use Rattle.score_edits.specs.Laws.{placed-before, removed-before}
 use Rattle.machine.specs.Refusals.{orElse, playRefusal, cueRefusal, goRefusal, insertRefusal, removeRefusal}
-use Rattle.machine.specs.Machine.{Machine, Call, Reply, startOf, settled, edit, unless, does, blockSamples, blockForces}
+use Rattle.machine.specs.Machine.{Machine, Call, Reply, startOf, settled, edit, unless, does, doesTo, blockSamples, blockForces}
 use Rattle.machine.specs.Laws.{SoundMachine, sound-does, settled-low, insert-passed, remove-passed}
 use Rattle.session_cues.specs.declared.Cue.{Cue}
 use Rattle.session_cues.specs.Cues.{freeSlot, dropAbove}
@@ -148,7 +148,7 @@ module _ (i : Instrument) (s : Session) (work : List Float) (p : Machine) (g : S
           rw (d .answer, front-now (length pushed) pushed _ trace′ (d .pushes) refl, counted-is, pushed-is, sounded-is)
 
     play-step : Stands i (r .session) work′ (does i p playing .0) × (replyOf (r .answer) out′ trace′ ≡ does i p playing .1)
-    unfolding does
+    unfolding doesTo
     play-step =
         by-refusal i s work p _ (playRefusal i (p .t) scratch m (length trace)) _ r work′ out′ trace′ g play-same
         (λ n. let x = h .refuses n in (x .0, x .1))
@@ -231,7 +231,7 @@ module _ (i : Instrument) (s : Session) (work : List Float) (p : Machine) (g : S
     cue-stands false e d few sound = cue-added d (kept-same ∙ e) few sound
 
     cue-step : Stands i (r .session) work′ (does i p Call.cue .0) × (replyOf (r .answer) out trace ≡ does i p Call.cue .1)
-    unfolding does
+    unfolding doesTo
     cue-step =
         by-refusal i s work p _ (cueRefusal (p .t) (p .cues)) _ r work′ out trace g cue-same (h .refuses)
         (λ z.
@@ -261,7 +261,7 @@ module _ (i : Instrument) (s : Session) (work : List Float) (p : Machine) (g : S
           (rw (f .score, held-render i s work p g x (greatest-held q (s .t ∷ keptBy s))) (sym (render-then i (p .score) x (q - x)) ∙ ap (renderState i (p .score)) low)) refl refl
 
     go-step : Stands i (r .session) work′ (does i p (Call.go scratch q) .0) × (replyOf (r .answer) out trace ≡ does i p (Call.go scratch q) .1)
-    unfolding does
+    unfolding doesTo
     go-step =
         by-refusal i s work p _ (goRefusal i scratch q start) _ r work′ out trace g go-same (h .refuses)
         (λ z.
@@ -341,7 +341,7 @@ module _ (i : Instrument) (s : Session) (work : List Float) (p : Machine) (g : S
     insert-same = refusal-same _ _ _ (standing-passes i s work p g) (rw (score-length i s work p g) refl)
 
     insert-step : Stands i (r .session) work′ (does i p (Call.insert e) .0) × (replyOf (r .answer) out trace ≡ does i p (Call.insert e) .1)
-    unfolding does
+    unfolding doesTo
     insert-step =
         by-refusal i s work p _ (insertRefusal (length (p .score)) e) (edit p (placed (p .score) e) (e .position)) r work′ out trace g insert-same (h .refuses)
         (λ z.
@@ -364,7 +364,7 @@ module _ (i : Instrument) (s : Session) (work : List Float) (p : Machine) (g : S
     gone = getD (p .score) index noEvent .position
 
     remove-step : Stands i (r .session) work′ (does i p (Call.remove index) .0) × (replyOf (r .answer) out trace ≡ does i p (Call.remove index) .1)
-    unfolding does
+    unfolding doesTo
     remove-step =
         by-refusal i s work p _ (removeRefusal (length (p .score)) index) (edit p (removed (p .score) index) gone) r work′ out trace g remove-same (h .refuses)
         (λ z.

@@ -1,4 +1,4 @@
-// Records that no list of calls reaches, handed to every call: those that refusal 7 has to catch, and those that differ from a right one only where nothing may be decided. Each line has the
+// Records that no list of calls reaches, handed to every call: those that refusal 7 has to catch, those that lie far on, and those that differ from a right one only where nothing may be decided. Each line has the
 // number that each call gives, 0 where it is accepted, and whether a refused call changed a cell. One line has a right record and a scratch cell too few.
 mod records;
 
@@ -6,6 +6,7 @@ use instrument::Instrument;
 use libc::STDOUT_FILENO;
 use score::Event;
 use score::TimedEvent;
+use score_edits::END;
 use session::Answer;
 use session_record::Session;
 use test_answers::digest;
@@ -126,19 +127,36 @@ fn try_short_scratch(i: Instrument, s: Session) {
     io::write_all(STDOUT_FILENO, b"\n");
 }
 
-// t, the count and the events.
+// t, an event or a cue there.
+fn try_position(i: Instrument, s: Session, position: u64) {
+    say(b"t ", position);
+    try_calls(b"", i, records::at(s, position));
+    say(b"an event at ", position);
+    try_calls(b"", i, records::with_ranks(s, 0, 2, position, 2));
+    say(b"a cue at ", position);
+    try_calls(b"", i, records::with_cue(s, 0, position));
+}
+
+// One past the end that there was, and past 32 bits; from where the four samples of a play reach the end, and the next; the end, one past it, and where sums of 64 bits would wrap.
+fn try_positions(i: Instrument, s: Session) {
+    try_position(i, s, 2_000_000_001);
+    try_position(i, s, 4_294_967_296);
+    try_position(i, s, END - 4);
+    try_position(i, s, END - 3);
+    try_position(i, s, END);
+    try_position(i, s, END + 1);
+    try_position(i, s, records::HALF);
+    try_position(i, s, records::MOST - 3);
+    try_position(i, s, records::MOST);
+}
+
+// The count and the events.
 fn try_scores(i: Instrument, s: Session) {
-    try_calls(b"t above the end", i, records::at(s, 2_000_000_001));
     try_calls(b"65 events", i, records::with_count(s, 65));
     try_calls(
         b"a position that falls",
         i,
         records::with_ranks(s, 9, 0, 8, 3),
-    );
-    try_calls(
-        b"a position above the end",
-        i,
-        records::with_ranks(s, 0, 2, 2_000_000_001, 2),
     );
     try_calls(
         b"a velocity of NaN",
@@ -207,11 +225,6 @@ fn try_pianos(i: Instrument, s: Session) {
 }
 
 fn try_cues(i: Instrument, s: Session) {
-    try_calls(
-        b"a cue above the end",
-        i,
-        records::with_cue(s, 0, 2_000_000_001),
-    );
     let one = records::with_cue(s, 1, 5);
     try_calls(b"two equal cues", i, records::with_cue(one, 3, 5));
     try_calls(
@@ -315,6 +328,7 @@ fn main() {
     let s = right_session(i);
     try_right(i, s);
     try_short_scratch(i, s);
+    try_positions(i, s);
     try_scores(i, s);
     try_orders(i, s);
     try_pianos(i, s);

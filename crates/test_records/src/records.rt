@@ -8,7 +8,7 @@ use score::TimedEvent;
 use session_cues::Cue;
 use session_record::Session;
 
-// The greatest count that a word holds; two halves of what lies past it add up to 0 where a sum wraps.
+// The greatest number that a word holds; two halves of what lies past it add up to 0 where a sum wraps.
 pub const MOST: u64 = 0xffff_ffff_ffff_ffff;
 
 pub const HALF: u64 = 0x8000_0000_0000_0000;

@@ -17,8 +17,8 @@ use Rattle.cuts.specs.Cuts.{cutsOf}
 use Rattle.instrument.specs.declared.Instrument.{Instrument}
 use Rattle.positions.specs.Positions.{count, upTo, greatest}
 use Rattle.score_edits.specs.Edits.{placed, mayPrecede, soundVelocity}
-use Rattle.machine.specs.Machine.{Call, does}
-use Rattle.worked_examples.specs.Replies.{answers, insertedAt, play, go, insertAt, cued, begin, then, then-go, done}
+use Rattle.machine.specs.Machine.{Call, doesTo}
+use Rattle.worked_examples.specs.Replies.{answers, insertedAt, play, go, insertAt, cued, begin, then, then-go, then-far, done}
 
 -- what the definitions give, and what the row says: lists of whole numbers, one for each reply of a session
 pub record Row : Type 0 where
@@ -93,12 +93,17 @@ rows i =
     ∷ record { computed = answers i (play i 100 ∷ Call.cue ∷ play i 50 ∷ insertAt i 100 ∷ []); stated = [] ∷ [] ∷ [] ∷ (100 ∷ 0 ∷ []) ∷ [] }
     -- "With t = 150, insert at 150: t = 150."
     ∷ record { computed = answers i (play i 100 ∷ Call.cue ∷ play i 50 ∷ insertAt i 150 ∷ []); stated = [] ∷ [] ∷ [] ∷ (150 ∷ 0 ∷ []) ∷ [] }
+    -- document 02, W8: an insert at the end is accepted, at the next position 11; a go past the end of before, from here, is 16
+    ∷ record {
+      computed = answers i (play i 100 ∷ Call.cue ∷ play i 50 ∷ insertAt i 9007199254740992 ∷ insertAt i 9007199254740993 ∷ go i 2000000001 ∷ []);
+      stated = [] ∷ [] ∷ [] ∷ (150 ∷ 0 ∷ []) ∷ (11 ∷ []) ∷ (16 ∷ []) ∷ [];
+    }
     ∷ []
 
 -- ---- the proof: every row's two sides are the same
 
 pub rows-hold : (i : Instrument) → Hold (rows i)
-unfolding rows does count upTo greatest placed mayPrecede soundVelocity
+unfolding rows doesTo count upTo greatest placed mayPrecede soundVelocity
 rows-hold i =
     refl and refl and refl and refl and refl and refl and refl and refl and refl
     and begin i _ _
@@ -107,4 +112,7 @@ rows-hold i =
     (then i (record { score = insertedAt 120 ∷ []; t = 130; cues = 100 ∷ [] }) (insertAt i 60) _ _ (done i _))))
     and begin i _ _ (then i (cued i) (insertAt i 100) _ _ (done i _))
     and begin i _ _ (then i (cued i) (insertAt i 150) _ _ (done i _))
+    and begin i _ _
+    (then i (cued i) (insertAt i 9007199254740992) _ _
+    (then i (record { score = insertedAt 9007199254740992 ∷ []; t = 150; cues = 100 ∷ [] }) (insertAt i 9007199254740993) _ _ (then-far i _ 2000000001 _ _ refl refl (done i _))))
     and no-more

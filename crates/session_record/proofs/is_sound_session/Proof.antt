@@ -1,12 +1,12 @@
 -- Over 64 events it is not sound; else it is what its tests of t, the score, the piano now and the kept cues say.
 use borrow.Author.Tests.{le-leb, lt-leb}
-use Rattle.session_record.specs.Record.{soundSession}
+use Rattle.session_record.specs.Record.{soundSessionTo}
 use borrow.Author.Needs.{needs}
 use Rattle.session_record.proofs.is_sound_session.Statement.{statement}
 use Rattle.session_record.proofs.is_sound_session.Tie as tie
 
 returns : tie.Need-returns
-unfolding soundSession
+unfolding soundSessionTo
 returns c = rw (lt-leb _ 64 (c .if1 .taken))
 
 is-sound-score-requires : tie.Need-is-sound-score-requires
@@ -19,7 +19,7 @@ are-sound-requires : tie.Need-are-sound-requires
 are-sound-requires c κs = search needs
 
 returns-2 : tie.Need-returns-2
-unfolding soundSession
+unfolding soundSessionTo
 returns-2 c =
     let scored = c .before .before .before .before .before in
     let few = scored .before .before .if1 .left in
