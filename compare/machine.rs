@@ -8,7 +8,7 @@ use std::collections::{BTreeSet, HashMap};
 
 /// No position is above it.
 pub const END: u64 = 9_007_199_254_740_992;
-/// None was before document 02's W8.
+/// None was above this one before document 02's W8.
 pub const FORMER_END: u64 = 2_000_000_000;
 pub const MOST_EVENTS: usize = 64;
 pub const MOST_CUES: usize = 4;

@@ -1,24 +1,12 @@
 /* Weights set in an instrument's file: `adjust INSTRUMENT`. Each file that gingerfile_adjust writes is compared with one made by
    hand, byte for byte, and so are the bytes beyond it; of a refused call every byte is as it was lent. */
-#include "gingerfile.h"
-#include <math.h>
-#include <stdio.h>
-#include <stdlib.h>
-#include <string.h>
+#include "test.h"
 
 enum { ROOM = GINGERFILE_LONGEST_FILE + 16, LENT = 0xa5, MOST_KEYS = 16 };
 
-static uint8_t file[ROOM], wanted[ROOM], out[ROOM], keys[MOST_KEYS];
-static size_t length, key_count;
+static uint8_t wanted[ROOM], out[ROOM], keys[MOST_KEYS];
+static size_t key_count;
 static int written, refused;
-
-static void check(int good, const char *what)
-{
-    if (!good) {
-        fprintf(stderr, "adjust: %s\n", what);
-        exit(1);
-    }
-}
 
 /* Where a section begins, as docs/FORMAT.md has it; 0 is common, the others are the keys'. */
 static size_t section(size_t index)
@@ -134,13 +122,7 @@ static void there_and_back(void)
 
 int main(int argc, char **argv)
 {
-    check(argc == 2, "usage: adjust INSTRUMENT");
-    FILE *source = fopen(argv[1], "rb");
-    check(source != NULL, "the instrument cannot be opened");
-    length = fread(file, 1, sizeof file, source);
-    fclose(source);
-    const gingerfile_sizes sizes = gingerfile_read(file, length);
-    check(sizes.refusal == 0 && sizes.words == GINGERFILE_WORDS, "the instrument is refused");
+    read_instrument(argc, argv);
     key_count = sizes.keys;
     for (size_t k = 0; k < key_count; k++)
         keys[k] = file[section(k + 1)];

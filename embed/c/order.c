@@ -1,34 +1,19 @@
 /* Words in another order: `order INSTRUMENT` inserts two events of different kinds at one position, in either order, and makes
    every call on the session's words, and on the same with the two events changed about. The first are accepted; the others are
    refused as 7, and nothing is written. */
-#include "gingerfile.h"
-#include <math.h>
-#include <stdio.h>
-#include <stdlib.h>
-#include <string.h>
+#include "test.h"
 
-enum { LONGEST_FILE = 65536, LARGEST_WORK = 661920, LARGEST_SCRATCH = 32, COUNT = 4, KINDS = 4, EVENT = 4 };
+enum { COUNT = 4, KINDS = 4, EVENT = 4 };
 
 /* Kinds by the order in which they act, with a key that each may have. */
 static const uint64_t kinds[KINDS] = { GINGERFILE_RELEASE, GINGERFILE_HAND_DAMP, GINGERFILE_PEDAL, GINGERFILE_STRIKE };
 static const uint64_t key_of[KINDS] = { 60, 60, 1, 60 };
 
-static uint8_t file[LONGEST_FILE];
 static uint64_t words[GINGERFILE_WORDS], words_before[GINGERFILE_WORDS];
 static double work[LARGEST_WORK], work_before[LARGEST_WORK], scratch[LARGEST_SCRATCH], out[COUNT], trace[COUNT];
-static size_t length;
-static gingerfile_sizes sizes;
 
 #define SESSION file, length, words, GINGERFILE_WORDS, work, sizes.work
 #define SCRATCH scratch, sizes.scratch
-
-static void check(int good, const char *what)
-{
-    if (!good) {
-        fprintf(stderr, "order: %s\n", what);
-        exit(1);
-    }
-}
 
 static void insert(uint64_t position, int rank)
 {
@@ -80,13 +65,7 @@ static void change_about(size_t index)
 
 int main(int argc, char **argv)
 {
-    check(argc == 2, "usage: order INSTRUMENT");
-    FILE *source = fopen(argv[1], "rb");
-    check(source != NULL, "the instrument cannot be opened");
-    length = fread(file, 1, sizeof file, source);
-    fclose(source);
-    sizes = gingerfile_read(file, length);
-    check(sizes.refusal == 0 && sizes.work <= LARGEST_WORK && sizes.scratch <= LARGEST_SCRATCH, "the instrument is refused");
+    read_instrument(argc, argv);
 
     int accepted = 0, refused = 0;
     for (int early = 0; early < KINDS; early++)

@@ -3,21 +3,12 @@
    from 0, every position as much later (where a string's cells begin in work memory goes with the position). At the end itself plays,
    goes and inserts are accepted, and one past it they are 11. Records with a position past the end, up to the last of 64 bits, are 7 in
    every call, and nothing is written. */
-#include "gingerfile.h"
+#include "test.h"
 #include <inttypes.h>
-#include <math.h>
-#include <stdio.h>
-#include <stdlib.h>
-#include <string.h>
 
-enum { LONGEST_FILE = 65536, LARGEST_WORK = 661920, LARGEST_SCRATCH = 32, SPAN = 1000, CALLS = 14 };
-enum { EVENTS = 64, EVENT_WORDS = 4, CUES = 4, CUE_WORDS = 72 };
+enum { SPAN = 1000, CALLS = 14, EVENTS = 64, EVENT_WORDS = 4, CUES = 4, CUE_WORDS = 72 };
 
 static const uint64_t end = UINT64_C(9007199254740992), former_end = UINT64_C(2000000000);
-
-static uint8_t file[LONGEST_FILE];
-static size_t length;
-static gingerfile_sizes sizes;
 
 /* All that calls leave. */
 typedef struct {
@@ -31,14 +22,6 @@ static left first, now, before;
 static double scratch[LARGEST_SCRATCH];
 
 #define SESSION file, length, now.words, GINGERFILE_WORDS, now.work, sizes.work
-
-static void check(int good, const char *what)
-{
-    if (!good) {
-        fprintf(stderr, "positions: %s\n", what);
-        exit(1);
-    }
-}
 
 /* Output and trace of all plays stand one behind the other. */
 static gingerfile_report play(size_t count)
@@ -211,14 +194,8 @@ int main(int argc, char **argv)
     static const uint64_t bases[] = { 0, UINT64_C(2000000000) - 500, UINT64_C(2147483648) - 500, UINT64_C(4294967296) - 500,
                                       UINT64_C(1) << 52, UINT64_C(9007199254740992) - SPAN };
     enum { BASES = sizeof bases / sizeof *bases };
-    check(argc == 2, "usage: positions INSTRUMENT");
+    read_instrument(argc, argv);
     check(GINGERFILE_END == end, "the header has another end");
-    FILE *source = fopen(argv[1], "rb");
-    check(source != NULL, "the instrument cannot be opened");
-    length = fread(file, 1, sizeof file, source);
-    fclose(source);
-    sizes = gingerfile_read(file, length);
-    check(sizes.refusal == 0 && sizes.work <= LARGEST_WORK && sizes.scratch <= LARGEST_SCRATCH, "the instrument is refused");
     for (size_t i = 0; i < LARGEST_SCRATCH; i++)
         scratch[i] = NAN;
 

@@ -1,21 +1,13 @@
 /* What scratch decides: `scratch INSTRUMENT` makes one list of calls again and again, each time with something else in scratch
    before every play and go. Samples, forces, answers, words and work memory are the same each time, and nothing behind the cells
    that are lent is written. A play and a go with one cell fewer are refused as 9, and nothing at all is written. */
-#include "gingerfile.h"
-#include <math.h>
-#include <stdio.h>
-#include <stdlib.h>
-#include <string.h>
+#include "test.h"
 
-enum { LONGEST_FILE = 65536, LARGEST_WORK = 661920, LARGEST_SCRATCH = 32, BEHIND = 8, COUNT = 512, BLOCKS = 6, CALLS = BLOCKS + 2 };
+enum { BEHIND = 8, COUNT = 512, BLOCKS = 6, CALLS = BLOCKS + 2 };
 
 /* What is put into scratch; the last one stands for what the call before has left. */
 static const double contents[] = { NAN, 0.0, -0.0, INFINITY, -INFINITY, 1e300, 5e-324, -1.0, 0.5 };
 enum { CONTENTS = sizeof contents / sizeof *contents, LEFT_OVER = CONTENTS - 1 };
-
-static uint8_t file[LONGEST_FILE];
-static size_t length;
-static gingerfile_sizes sizes;
 
 /* All that a list of calls leaves. */
 typedef struct {
@@ -28,14 +20,6 @@ static left first, now, before;
 static double scratch[LARGEST_SCRATCH + BEHIND], scratch_before[LARGEST_SCRATCH + BEHIND];
 
 #define SESSION file, length, now.words, GINGERFILE_WORDS, now.work, sizes.work
-
-static void check(int good, const char *what)
-{
-    if (!good) {
-        fprintf(stderr, "scratch: %s\n", what);
-        exit(1);
-    }
-}
 
 static void fill(int content)
 {
@@ -105,14 +89,8 @@ static void make_list(int content)
 
 int main(int argc, char **argv)
 {
-    check(argc == 2, "usage: scratch INSTRUMENT");
-    FILE *source = fopen(argv[1], "rb");
-    check(source != NULL, "the instrument cannot be opened");
-    length = fread(file, 1, sizeof file, source);
-    fclose(source);
-    sizes = gingerfile_read(file, length);
-    check(sizes.refusal == 0 && sizes.work <= LARGEST_WORK, "the instrument is refused");
-    check(sizes.scratch == sizes.strings && sizes.scratch <= LARGEST_SCRATCH, "scratch is not one cell for each string");
+    read_instrument(argc, argv);
+    check(sizes.scratch == sizes.strings, "scratch is not one cell for each string");
 
     for (int content = 0; content < CONTENTS; content++) {
         make_list(content);

@@ -1,5 +1,6 @@
--- Document 02, W8: "Any list of calls from opening that got no 11 under the old end gets the same answers, score, position and cues under the new one." For any two ends, from any
--- machine. One call: the end stands in one test of play, go and insert alone, and a test that does not refuse under the earlier end does not under the later one. Assumes nothing.
+-- Document 02, W8: "Any list of calls from opening that got no 11 under the old end gets the same answers, score, position and cues under the new one." For any end and
+-- a later one, from any machine. One call: the end stands in one test of play, go and insert alone, and where that does not refuse under the earlier end it does not under the later one.
+-- Assumes nothing.
 use mathlib.Core.Path.{_≡_, refl, ap}
 use mathlib.Core.Bool.{Bool, true, false}
 use mathlib.Core.List.{List, [], _∷_}
@@ -12,6 +13,7 @@ use Rattle.instrument.specs.declared.Instrument.{Instrument}
 use Rattle.machine.specs.Refusals.{refuseIf, orElse, scratchTest, traceTest, endTest, fullTest, velocityTest, replayTest, playRefusalTo, goRefusalTo, insertRefusalTo}
 use Rattle.machine.specs.Machine.{Machine, Call, Reply, startOf, unless, doesTo, finalTo, repliesTo}
 
+-- refused as past the end
 abbrev pub PastEnd : Reply → Type 0
 PastEnd r = r ≡ Reply.refused 11
 
@@ -59,7 +61,7 @@ module _ (a b : ℕ) (longer : a ≤ b) where
       rw same
   does-longer i p (Call.remove index) h = refl
 
-  -- a list of calls: the same replies, and the same machine after it
+  -- a list of calls of which none is refused as 11 under the end a: the same replies, and the same machine after it
   pub longer-same : (i : Instrument) (p : Machine) (cs : List Call) → NonePastEnd (repliesTo a i p cs) → (repliesTo a i p cs ≡ repliesTo b i p cs) × (finalTo a i p cs ≡ finalTo b i p cs)
   unfolding repliesTo finalTo NonePastEnd
   longer-same i p [] h = (refl, refl)

@@ -30,7 +30,7 @@ formerEnd = 2000000000
 pub former-record : (i : Instrument) (s : Session) → valid i ≡ true → soundSessionTo formerEnd (i .«key_count») s ≡ true → soundRecords i s ≡ true
 former-record i s v h = and-both _ _ v (session-longer formerEnd end (omega arith) (i .«key_count») s h)
 
--- the program's replies, and its session and memory after the list, are those of the plain machine that ended there
+-- where the plain machine that ended there refuses no call of the list as 11, the program's replies are that machine's, and its session and memory after the list follow it
 pub former-list : (i : Instrument) (work work′ : List Float) (r : Outcome) → OpenMeets i work r work′ → r .answer ≡ Opened
     → {cs : List Call} {rs : List Reply} {s : Session} {work″ : List Float} → Runs i (r .session) work′ cs rs s work″
     → NonePastEnd (repliesTo formerEnd i opened cs) → (rs ≡ repliesTo formerEnd i opened cs) × Follows i s work″ (finalTo formerEnd i opened cs)
