@@ -8,14 +8,12 @@ ghost use Rattle.filter.specs.Filter.{stageOut, stageCells, rowOut, rowCells};
 ghost use Rattle.float.specs.Float.{minOf, maxOf, clampOf, positivePart, roundAway, zero as +0};
 ghost use Rattle.hammer.specs.Contact.{forceOf};
 ghost use Rattle.power.specs.Power.{powerOf};
-ghost use Rattle.root.specs.Law.{SquareRoot};
 ghost use Rattle.root.specs.Root.{rootOf};
 ghost use Rattle.exports.specs.Runs.{LoopFiltered, lengthsOf, rootChain, felt, rowOuts, cellsAfter};
 
-// The root, in IEEE 754's own words too: every f64 is a value of the format, so no premise is left.
 #[no_mangle]
 pub extern "C" fn leaf_root(x: f64) -> f64
-    ensures { λ r. ⌜ (r ≡ rootOf x) × SquareRoot x r ⌝ }
+    ensures { λ r. ⌜ r ≡ rootOf x ⌝ }
 {
     root::root(x)
 }

@@ -4,6 +4,7 @@ ghost use mathlib.Core.Path.{_≡_};
 ghost use mathlib.Core.Bool.{true};
 ghost use Prim.Native.Nat.{_+_, _*_, _^_, _<_};
 ghost use lib.Ieee.{ofBits, binary64};
+ghost use Rattle.root.specs.Law.{SquareRoot};
 ghost use Rattle.root.specs.Root.{rootOf};
 ghost use Rattle.root.specs.Steps.{nearestRoot, Left, Scaled, Paired};
 
@@ -189,9 +190,11 @@ fn paired(bits: u64) -> Shifted
     }
 }
 
-// Infinity and both zeros give themselves; NaN and numbers below zero give NaN.
+// Infinity and both zeros give themselves; NaN and numbers below zero give NaN. The second promise is IEEE 754's own words:
+// every f64 is a value of the format, so it has no premise.
 pub fn root(x: f64) -> f64
     ensures { λ r. ⌜ r ≡ rootOf x ⌝ }
+    ensures { λ r. ⌜ SquareRoot x r ⌝ }
 {
     if x > 0.0 {
         let bits: u64 = f64::to_bits(x);

@@ -56,7 +56,7 @@ power-returns-2 : (t : ℕ) → power-lts.Need-returns-2 (claims t) (power-at t)
 power-returns-2 t c =
     let s = c .before .before .before in
     let a = s .before .args in
-    halves-three (a .x) (c .root .result) (a .word) (s .if1 .taken) (c .before .if3 .taken) (c .root .ensures)
+    halves-three (a .x) (c .root .result) (a .word) (s .if1 .taken) (c .before .if3 .taken) (c .root .ensures .0)
 
 power-returns-3 : (t : ℕ) → power-lts.Need-returns-3 (claims t) (power-at t) power.Post
 power-returns-3 t c =

@@ -21,19 +21,19 @@ returns-2 : tie.Need-returns-2
 returns-2 c =
     let r = c .before .before in
     let a = r .before .before .args in
-    quarters-five (a .x) (r .root .result) (c .root2 .result) (a .e) (c .before .if2 .taken) (r .root .ensures) (c .root2 .ensures)
+    quarters-five (a .x) (r .root .result) (c .root2 .result) (a .e) (c .before .if2 .taken) (r .root .ensures .0) (c .root2 .ensures .0)
 
 returns-3 : tie.Need-returns-3
 returns-3 c =
     let r = c .before .before in
     let a = r .before .before .args in
-    quarters-six (a .x) (r .root .result) (a .e) (c .if3 .taken) (r .root .ensures)
+    quarters-six (a .x) (r .root .result) (a .e) (c .if3 .taken) (r .root .ensures .0)
 
 returns-4 : tie.Need-returns-4
 returns-4 c =
     let r = c .before .before .before in
     let a = r .before .before .args in
-    quarters-seven (a .x) (r .root .result) (c .root3 .result) (a .e) (omega arith) (r .root .ensures) (c .root3 .ensures)
+    quarters-seven (a .x) (r .root .result) (c .root3 .result) (a .e) (omega arith) (r .root .ensures .0) (c .root3 .ensures .0)
 
 pub few-quarters-spec : {M : Type 1} → statement M
 few-quarters-spec =

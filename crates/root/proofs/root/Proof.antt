@@ -1,14 +1,16 @@
--- `root::root` meets its contract: the facts are those of `proofs/Patterns.antt`. Of the guess nothing is used. Assumes nothing.
+-- `root::root` meets its contract: the equation by the facts of `proofs/Patterns.antt`, the standard's words from it by `root-law`. Of the guess nothing is used. Assumes nothing.
 use mathlib.Core.Path.{_≡_, refl, sym, _∙_, subst}
 use Prim.Native.Nat.{ℕ, _+_, _-_, _*_, _/_, _%_, _^_, _<_}
 use native.Mathlib.Omega.{arith}
 use mathlib.Core.Bool.{not}
 use lib.Dec.{T}
-use lib.Ieee.{binary64, fits, nanBits, ofBits, div}
+use lib.Ieee.{Float, binary64, fits, nanBits, ofBits, div}
+use Rattle.root.specs.Law.{SquareRoot}
 use Rattle.root.specs.Root.{rootOf}
 use Rattle.root.specs.Steps.{nearestRoot}
 use Rattle.float.specs.Numbers.{lt-no-nan}
 use Rattle.float.specs.Order.{nought}
+use Rattle.root.proofs.Correct.{root-law}
 use Rattle.root.proofs.Patterns.{above-zero-bits, above-top-root, zero-root, no-root, made}
 use borrow.Author.Needs.{needs}
 use Rattle.root.proofs.root.Statement.{statement}
@@ -16,6 +18,10 @@ use Rattle.root.proofs.root.Tie as tie
 
 held : (c : tie.Start) → T (fits binary64 (c .args .x))
 held c = subst T (sym (c .good .0 .1)) tt
+
+-- both promises, from the equation
+both : (c : tie.Start) {r : Float} → r ≡ rootOf (c .args .x) → (r ≡ rootOf (c .args .x)) × SquareRoot (c .args .x) r
+both c e = (e, subst (λ (r : Float). SquareRoot (c .args .x) r) (sym e) (root-law (c .args .x) (held c)))
 
 float-to-bits-bits : tie.Need-float-to-bits-bits
 unfolding ofBits
@@ -45,7 +51,7 @@ is-rounded-requires c κs = search needs
 
 returns : tie.Need-returns
 unfolding ofBits
-returns c = let p = c .before .before .before .before .before in c .before .is-rounded .ensures (c .if4 .taken) ∙ pattern p _ refl .2
+returns c = let p = c .before .before .before .before .before in both (p .before .before .before) (c .before .is-rounded .ensures (c .if4 .taken) ∙ pattern p _ refl .2)
 
 guess-requires : tie.Need-guess-requires
 guess-requires c κs = search needs
@@ -66,19 +72,19 @@ float-from-bits-result : tie.Need-float-from-bits-result
 float-from-bits-result c = result c .1
 
 returns-2 : tie.Need-returns-2
-returns-2 c = result c .2
+returns-2 c = both (c .before .before .before .before .before .before .before) (result c .2)
 
 returns-3 : tie.Need-returns-3
 unfolding ofBits
-returns-3 c = above-top-root (c .before .before .args .x) (held (c .before .before)) (c .before .if1 .taken) (c .if2 .left)
+returns-3 c = let s = c .before .before in both s (above-top-root (s .args .x) (held s) (c .before .if1 .taken) (c .if2 .left))
 
 returns-4 : tie.Need-returns-4
 unfolding ofBits
-returns-4 c = zero-root (c .before .before .args .x) (c .if5 .taken)
+returns-4 c = let s = c .before .before in both s (zero-root (s .args .x) (c .if5 .taken))
 
 returns-5 : tie.Need-returns-5
 unfolding ofBits div
-returns-5 c = no-root (c .before .before .args .x) (c .before .if1 .left) (c .if5 .left)
+returns-5 c = let s = c .before .before in both s (no-root (s .args .x) (c .before .if1 .left) (c .if5 .left))
 
 pub root-spec : {M : Type 1} → statement M
 root-spec =

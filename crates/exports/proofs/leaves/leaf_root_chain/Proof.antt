@@ -32,7 +32,7 @@ loop-less : tie.Need-loop-less Inv-loop μ-loop
 loop-less c = search needs
 
 loop-again : tie.Need-loop-again Inv-loop μ-loop
-loop-again c = chained-turn (c .before .before .before .loop .inv) (c .before .before .loop-test .taken) (c .root .ensures)
+loop-again c = chained-turn (c .before .before .before .loop .inv) (c .before .before .loop-test .taken) (c .root .ensures .0)
 
 returns : tie.Need-returns Inv-loop μ-loop
 returns c = chained-end (c .before .loop .inv) (c .loop-test .left)

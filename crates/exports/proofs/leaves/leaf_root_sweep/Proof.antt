@@ -38,7 +38,7 @@ loop-less : tie.Need-loop-less Inv-loop μ-loop
 loop-less c = search needs
 
 loop-again : tie.Need-loop-again Inv-loop μ-loop
-loop-again c = swept-turn (c .before .before .before .loop .inv) (c .before .before .loop-test .taken) (c .root .ensures)
+loop-again c = swept-turn (c .before .before .before .loop .inv) (c .before .before .loop-test .taken) (c .root .ensures .0)
 
 same-length : tie.Need-same-length Inv-loop μ-loop
 same-length c = search needs
