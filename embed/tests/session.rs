@@ -248,26 +248,123 @@ fn words_of_another_length_are_refused() {
 
 /// Each word in turn all ones: refused, but for those that decide nothing, past the score's end, in slots that keep no cue and
 /// past the last key.
+/// In the words of a piano: the dampers, the contact samples, whether a hammer flies, its key, place and speed, and the peak force.
+const DAMPERS: usize = 32;
+const COUNTS: usize = CONTACT_SAMPLES - NOW;
+const FLIES: usize = 65;
+const PEAK: usize = 69;
+/// Where the first cue has its piano.
+const CUE_PIANO: usize = CUES + 2;
+
+/// The piano that word `i` belongs to, the one now or that of a cue which is kept, and the word's place in it.
+fn in_piano(words: &[u64], i: usize) -> Option<(&[u64], usize)> {
+    if i < CUES {
+        return None;
+    }
+    if i >= NOW {
+        return Some((&words[NOW..], i - NOW));
+    }
+    let (cue, word) = (CUES + (i - CUES) / CUE * CUE, (i - CUES) % CUE);
+    (words[cue] == 1 && word >= 2).then(|| (&words[cue + 2..], word - 2))
+}
+
+/// Whether word `i` counts for nothing: events past the number of events, the velocity of an event that is not a strike, a cue that is
+/// not kept, the words of a hammer that does not fly, counts past the last key.
+fn is_unused(words: &[u64], i: usize) -> bool {
+    if let Some((piano, at)) = in_piano(words, i) {
+        return COUNTS + KEYS <= at && at < COUNTS + MOST_KEYS || FLIES < at && at < PEAK && piano[FLIES] == 0;
+    }
+    if (EVENTS..CUES).contains(&i) {
+        let (event, word) = ((i - EVENTS) / EVENT, (i - EVENTS) % EVENT);
+        return words[1] <= event as u64 || word == 3 && words[EVENTS + EVENT * event + 1] != 0;
+    }
+    i >= CUES && (i - CUES) % CUE != 0 && words[CUES + (i - CUES) / CUE * CUE] == 0
+}
+
+/// Whether word `i` is a float of a state that is held.
+fn is_float(words: &[u64], i: usize) -> bool {
+    in_piano(words, i).is_some_and(|(_, at)| (DAMPERS..COUNTS).contains(&at) || (FLIES + 2..=PEAK).contains(&at))
+}
+
 #[test]
 fn words_of_no_session_are_refused() {
     let mut console = rehearsed();
     let kept = console.words().to_vec();
-    let mut accepted = 0;
     for i in 0..WORDS {
         let mut words = kept.clone();
         words[i] = u64::MAX;
-        match console.set_words(&words) {
-            Ok(()) => {
-                accepted += 1;
-                console.set_words(&kept).unwrap();
-            }
-            Err(refusal) => assert_eq!(refusal, Refusal::RECORD),
-        }
+        let answer = console.set_words(&words);
+        let right = is_unused(&kept, i) || is_float(&kept, i);
+        assert_eq!(answer, if right { Ok(()) } else { Err(Refusal::RECORD) }, "word {i}");
+        console.set_words(&kept).unwrap();
         assert_eq!(console.words(), kept);
     }
-    // a position of each event, and a position and every count of each cue, that are not there; the counts past the last key,
-    // of the cue that is kept and of the piano now
-    assert_eq!(accepted, (64 - 5) + (1 + MOST_KEYS) * (4 - 1) + 2 * (MOST_KEYS - KEYS));
+}
+
+/// Flags are 0 or 1, in the piano and in a kept cue.
+#[test]
+fn flags_of_two_are_refused() {
+    let mut console = rehearsed();
+    let kept = console.words().to_vec();
+    assert_eq!(kept[CUES], 1, "the first cue is kept");
+    for piano in [CUE_PIANO, NOW] {
+        for flag in (0..DAMPERS).chain([FLIES - 1, FLIES]) {
+            let mut words = kept.clone();
+            words[piano + flag] = 2;
+            refused(&mut console, Refusal::RECORD, |c| c.set_words(&words));
+        }
+    }
+    let mut words = kept;
+    words[CUES] = 2;
+    refused(&mut console, Refusal::RECORD, |c| c.set_words(&words));
+}
+
+/// "Floats of the state may hold anything": every pattern of a NaN is the one NaN, in the piano and in a kept cue.
+#[test]
+fn every_nan_is_read_as_nan() {
+    let played_with = |nan: u64| {
+        let mut console = rehearsed();
+        let kept = console.words().to_vec();
+        let mut words = kept.clone();
+        assert_eq!((words[CUES], words[NOW + FLIES]), (1, 1), "a cue is kept, and a hammer flies");
+        for i in (0..WORDS).filter(|&i| is_float(&kept, i)) {
+            words[i] = nan;
+        }
+        console.set_words(&words).unwrap();
+        assert_eq!(console.words(), words, "words are kept as they were put in");
+        let mut out = [0.0; 64];
+        let mut trace = [0.0; 64];
+        let played = console.play(&mut out, &mut trace).unwrap();
+        let now = console.words().to_vec();
+        let went = console.go(950).unwrap();
+        (played, bits(&out), bits(&trace), now, went, console.words().to_vec(), bits(console.work()))
+    };
+    let one = played_with(f64::NAN.to_bits());
+    for nan in [0xfff8_0000_0000_0000, 0x7ff0_0000_0000_0001, 0xfff0_0000_0000_0001, u64::MAX] {
+        assert!(f64::from_bits(nan).is_nan());
+        assert_eq!(played_with(nan), one, "{nan:x}");
+    }
+}
+
+/// What counts for nothing decides nothing.
+#[test]
+fn places_that_count_for_nothing_decide_nothing() {
+    let mut console = rehearsed();
+    let kept = console.words().to_vec();
+    let mut words = kept.clone();
+    for i in (0..WORDS).filter(|&i| is_unused(&kept, i)) {
+        words[i] = 0x0123_4567_89ab_cdef;
+    }
+    let mut other = console.clone();
+    other.set_words(&words).unwrap();
+    for p in [1_200, 905, 2_500] {
+        assert_eq!(other.go(p), console.go(p));
+        assert_eq!(bits(other.work()), bits(console.work()));
+        let (new, right) = (other.words(), console.words());
+        for i in (0..WORDS).filter(|&i| !is_unused(right, i)) {
+            assert_eq!(new[i], right[i], "word {i} at {p}");
+        }
+    }
 }
 
 // ---- a count for each key

@@ -1,7 +1,7 @@
 -- A list of tests that all hold, and each of them. Assumes nothing.
 use mathlib.Core.Path.{_≡_, refl}
 use mathlib.Core.Bool.{Bool, true, false, _&&_}
-use mathlib.Core.List.{List, [], _∷_}
+use mathlib.Core.List.{List, [], _∷_, _++_}
 use Prim.Native.Nat.{ℕ, zero, suc}
 use lib.ListN.{getD}
 
@@ -12,6 +12,15 @@ everyAfter t (u ∷ l) = everyAfter (t && u) l
 -- each test of the list holds
 unfoldable pub every : List Bool → Bool
 every = everyAfter true
+
+-- one test more
+pub every-more : (l : List Bool) (u : Bool) → every (l ++ (u ∷ [])) ≡ (every l && u)
+unfolding every everyAfter
+every-more l u = go true l
+  where
+    go : (t : Bool) (l : List Bool) → everyAfter t (l ++ (u ∷ [])) ≡ (everyAfter t l && u)
+    go t [] = refl
+    go t (v ∷ l) = go (t && v) l
 
 pub and-left : (t u : Bool) → (t && u) ≡ true → t ≡ true
 and-left true u h = refl

@@ -1,6 +1,6 @@
 -- What a function stores or reads of a piano's small state, over plain words. Assumes nothing.
 use mathlib.Core.Path.{_≡_, sym, ap, _∙_}
-use mathlib.Core.Bool.{Bool, cond}
+use mathlib.Core.Bool.{Bool, cond, _&&_}
 use mathlib.Core.List.{List, [], _∷_, _++_}
 use Prim.Native.Nat.{ℕ, suc, _+_}
 use native.Mathlib.Omega.{arith}
@@ -9,6 +9,7 @@ use lib.Ieee.{Float, binary64, ofBits, toBits}
 use lib.ListN.{length, getD, drop, set}
 use lib.Seq.{sets, getD-drop, drop-drop}
 use borrow.Author.Tests.{eq-eqb, ne-eqb}
+use Rattle.counting.specs.Every.{every}
 use Rattle.points.specs.declared.HammerState.{HammerState}
 use Rattle.points.specs.declared.HammerState.the-variants.{Resting, Flying}
 use Rattle.sample.specs.declared.Motion.{Motion}
@@ -16,7 +17,7 @@ use Rattle.score.specs.declared.Piano.{Piano}
 use Rattle.session_words.specs.Layout.{peakOffset, handDampedOffset, dampersOffset, contactsOffset, pedalOffset, motionOffset}
 use Rattle.little_endian.specs.Stores.{sets-next}
 use Rattle.session_words.specs.Items.{joined, itemsOf}
-use Rattle.session_words.specs.Piano.{bitOf, flagWord, flagOf, floatWord, floatOf, countWord, countOf, hammerWords, hammerFrom, motionWords, motionOf, pianoWords, pianoOf}
+use Rattle.session_words.specs.Piano.{bitOf, flagWord, flagOf, floatWord, floatOf, countWord, countOf, hammerWords, hammerFrom, motionWords, motionOf, pianoWords, pianoOf, isFlag, isPiano}
 use Rattle.session_words.specs.PianoLaws.{flags-length, floats-length, counts-length, hammer-length}
 use Rattle.session_words.proofs.Runs.{first}
 
@@ -97,3 +98,12 @@ module _ (p : Piano) (h1 : length (p .held) ≡ 16) (h2 : length (p .«hand_damp
       ∙ sets-next l1 x2 (x3 ++ (x4 ++ x5)) (at + handDampedOffset) (at + dampersOffset) (omega arith)
       ∙ ap (λ (v : List ℕ). sets v (at + handDampedOffset) (x2 ++ (x3 ++ (x4 ++ x5)))) e1
       ∙ sets-next l x1 (x2 ++ (x3 ++ (x4 ++ x5))) at (at + handDampedOffset) (omega arith)
+
+-- ---- the test
+
+pub piano-tested : (w : List ℕ) (at : ℕ) (held damped pedal hammer : Bool) → held ≡ every (itemsOf isFlag 1 16 (drop at w))
+    → damped ≡ every (itemsOf isFlag 1 16 (drop (at + handDampedOffset) w)) → pedal ≡ isFlag (drop (at + pedalOffset) w) → hammer ≡ isFlag (drop (at + motionOffset) w)
+    → (held && damped && pedal && hammer) ≡ isPiano (drop at w)
+unfolding isPiano
+piano-tested w at held damped pedal hammer e1 e2 e3 e4 =
+    rw (drop-drop handDampedOffset at w, drop-drop pedalOffset at w, drop-drop motionOffset at w, e1, e2, e3, e4)

@@ -3,14 +3,13 @@ use mathlib.Core.Path.{_≡_, refl, sym, ap, _∙_}
 use mathlib.Core.Bool.{Bool, true, false, true≢false, false≢true, _&&_}
 use mathlib.Core.List.{List, _++_}
 use Prim.Native.Nat.{ℕ, suc, _+_, _%_}
-use native.Mathlib.Numerals.{add-one}
 use native.Mathlib.Omega.{arith}
 use lib.Dec.{eqb}
 use lib.Ieee.{Float, binary64, ofBits}
 use lib.ListN.{length, getD, drop, set}
 use lib.Seq.{sets, getD-drop, drop-drop}
 use borrow.Author.Tests.{eq-eqb, ne-eqb}
-use Rattle.counting.specs.Below.{allBelow}
+use Rattle.counting.specs.Every.{every}
 use Rattle.little_endian.specs.Stores.{sets-next, sets-whole}
 use Rattle.score.specs.declared.Event.{Event}
 use Rattle.score.specs.declared.Event.the-variants.{NoteOn, NoteOff, Pedal, HandDamp}
@@ -20,10 +19,10 @@ use Rattle.session_cues.specs.declared.Cue.{Cue}
 use Rattle.session_record.specs.declared.Session.{Session}
 use Rattle.session_words.specs.Layout.{timedSize, cueSize, cuePianoOffset, eventsOffset, cuesOffset, pianoOffset, sessionSize}
 use Rattle.session_words.specs.Items.{joined, itemsOf}
-use Rattle.session_words.specs.Piano.{bitOf, pianoWords, pianoOf}
+use Rattle.session_words.specs.Piano.{bitOf, pianoWords, pianoOf, isPiano}
 use Rattle.session_words.proofs.Runs.{first}
-use Rattle.session_words.specs.Session.{eventOf, timedWords, timedOf, cueWords, cueOf, wordsOf, sessionOf, isSession, ReadMeets, PutMeets}
-use Rattle.session_words.specs.Laws.{FitSession, events-length, cues-length, words-length, session-back, words-are, fit-of}
+use Rattle.session_words.specs.Session.{isEvent, eventOf, timedWords, timedOf, cueWords, cueOf, wordsOf, sessionOf, isTimed, isCue, countedEvents, isSession, ReadMeets, PutMeets}
+use Rattle.session_words.specs.Laws.{FitSession, events-length, cues-length, words-length, session-back, words-are}
 
 -- ---- an event by its numbers
 
@@ -115,20 +114,24 @@ module _ (s : Session) (f : FitSession s) where
 
 -- ---- the test
 
--- one word more
-pub all-next : (P : ℕ → Bool) (i : ℕ) (t : Bool) → t ≡ allBelow i P → (t && P i) ≡ allBelow (i + 1) P
-unfolding allBelow
-all-next P i t e = rw (add-one, e)
+module _ (w : List ℕ) (at : ℕ) where
+  pub timed-tested : (kind key : ℕ) (r : Bool) → kind ≡ getD w (at + 1) 0 → key ≡ getD w (at + 2) 0 → r ≡ isEvent kind key → r ≡ isTimed (drop at w)
+  timed-tested kind key r ek ey er = rw (getD-drop at w 1 0, getD-drop at w 2 0, ← ek, ← ey) er
+
+  module _ (kept : ℕ) (e : kept ≡ getD w at 0) where
+    pub cue-unkept : kept ≡ 0 → true ≡ isCue (drop at w)
+    unfolding isCue
+    cue-unkept z = rw (eq-eqb (getD (drop at w) 0 0) 0 (sym (first w at) ∙ sym e ∙ z))
+
+    pub cue-tested : (kept ≡ 0 → ⊥) → {piano : Bool} → piano ≡ isPiano (drop (at + cuePianoOffset) w) → (eqb kept 1 && piano) ≡ isCue (drop at w)
+    unfolding isCue
+    cue-tested h ep = let here : kept ≡ getD (drop at w) 0 0 = e ∙ first w at in rw (drop-drop cuePianoOffset at w, ← here, ne-eqb kept 0 h, ep)
 
 module _ (w : List ℕ) (s : Session) where
-  pub read-whole : s ≡ sessionOf w → (l again : List ℕ) (r : Bool) → length w ≡ sessionSize → length l ≡ sessionSize → again ≡ sets l 0 (wordsOf s)
-      → r ≡ allBelow sessionSize (λ i. eqb (getD w i 0) (getD again i 0)) → ReadMeets w (record { «is_session» = r; session = s })
+  pub read-whole : s ≡ sessionOf w → (a b c : Bool) → length w ≡ sessionSize → a ≡ every (itemsOf isTimed timedSize (countedEvents (getD w 1 0)) (drop eventsOffset w))
+      → b ≡ every (itemsOf isCue cueSize 4 (drop cuesOffset w)) → c ≡ isPiano (drop pianoOffset w) → ReadMeets w (record { «is_session» = a && b && c; session = s })
   unfolding isSession
-  read-whole es l again r h k ea er =
-      let long = ap (λ (z : Session). length (wordsOf z)) es ∙ words-length (sessionOf w) (fit-of w) in
-      let a : again ≡ wordsOf (sessionOf w) = ea ∙ sets-whole l (wordsOf s) (long ∙ sym k) ∙ ap wordsOf es in
-      let t : r ≡ allBelow sessionSize (λ i. eqb (getD w i 0) (getD (wordsOf (sessionOf w)) i 0)) = er ∙ ap (λ (v : List ℕ). allBelow sessionSize (λ i. eqb (getD w i 0) (getD v i 0))) a in
-      record { answer = rw (eq-eqb (length w) sessionSize h) t; reads = λ _. es }
+  read-whole es a b c h ea eb ec = record { answer = rw (eq-eqb (length w) sessionSize h, ea, eb, ec); reads = λ _. es }
 
   pub read-none : (length w ≡ sessionSize → ⊥) → ReadMeets w (record { «is_session» = false; session = s })
   unfolding isSession

@@ -6,6 +6,7 @@ use native.Mathlib.Nat.{add-zero}
 use native.Mathlib.Omega.{arith}
 use lib.ListN.{getD, drop, set}
 use lib.Seq.{sets, getD-drop, drop-drop}
+use Rattle.session_words.specs.Piano.{isFlag}
 
 -- ---- reading
 
@@ -17,6 +18,9 @@ pub in-run : (w : List ℕ) (at i x : ℕ) → x ≡ getD w (at + i) 0 → x ≡
 in-run w at i x e =
     let n : at + i ≡ at + 1 * i = omega arith in
     e ∙ ap (λ (m : ℕ). getD w m 0) n ∙ first w (at + 1 * i) ∙ ap (λ (l : List ℕ). getD l 0 0) (sym (drop-drop (1 * i) at w))
+
+pub flag-in-run : (w : List ℕ) (at i : ℕ) → isFlag (drop (at + i) w) ≡ isFlag (drop (1 * i) (drop at w))
+flag-in-run w at i = let n : at + i ≡ at + 1 * i = omega arith in ap (λ (m : ℕ). isFlag (drop m w)) n ∙ ap isFlag (sym (drop-drop (1 * i) at w))
 
 -- item i of a run
 pub item-at : (w : List ℕ) (a width i : ℕ) → drop (a + width * i) w ≡ drop (width * i) (drop a w)

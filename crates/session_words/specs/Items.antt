@@ -1,5 +1,6 @@
 -- Items of equal width in a list of words, one after the other: written, read, and read back. Assumes nothing.
 use mathlib.Core.Path.{_≡_, refl, sym, ap, _∙_}
+use mathlib.Core.Bool.{Bool, true, _&&_}
 use mathlib.Core.List.{List, [], _∷_, _++_, append-assoc, append-nil}
 use Prim.Native.Nat.{ℕ, zero, suc, _+_, _*_, _≤_, _<_}
 use native.Mathlib.Nat.{mul-suc}
@@ -7,6 +8,7 @@ use native.Mathlib.Numerals.{add-one}
 use native.Mathlib.Omega.{arith}
 use lib.ListN.{length, take, drop, getD, set, length-append}
 use lib.Seq.{sets, take-suc, take-suc-set, take-all, drop-at, drop-drop, length-take-le}
+use Rattle.counting.specs.Every.{every, everyAfter, every-more}
 use Rattle.little_endian.specs.Stores.{sets-next}
 
 module _ {A : Type 0} where
@@ -106,3 +108,21 @@ module _ {A : Type 0} where
         ∙ ap (λ (y : A). y ∷ itemsOf g width (length xs) (drop width (f x ++ (joined f xs ++ r)))) (back x (h .0) (joined f xs ++ r))
         ∙ ap (λ (v : List ℕ). x ∷ itemsOf g width (length xs) v) (drop-at (f x) (joined f xs ++ r) width (size x (h .0)))
         ∙ ap (λ (v : List A). x ∷ v) (items-back g back xs (h .1) r)
+
+    -- where every item's words pass a test, so do the first n of those that were written
+    pub items-pass : (test : List ℕ → Bool) → ((x : A) → P x → (r : List ℕ) → test (f x ++ r) ≡ true) → (n : ℕ) (xs : List A) → AllOf P xs → n ≤ length xs → (r : List ℕ)
+        → every (itemsOf test width n (joined f xs ++ r)) ≡ true
+    unfolding joined itemsOf AllOf every everyAfter
+    items-pass test pass zero xs h k r = refl
+    items-pass test pass (suc n) [] h k r = absurd (omega arith)
+    items-pass test pass (suc n) (x ∷ xs) h k r =
+        let e : (f x ++ joined f xs) ++ r ≡ f x ++ (joined f xs ++ r) = append-assoc (f x) (joined f xs) r in
+        ap (λ (v : List ℕ). everyAfter (test v) (itemsOf test width n (drop width v))) e
+        ∙ ap (λ (t : Bool). everyAfter t (itemsOf test width n (drop width (f x ++ (joined f xs ++ r))))) (pass x (h .0) (joined f xs ++ r))
+        ∙ ap (λ (v : List ℕ). everyAfter true (itemsOf test width n v)) (drop-at (f x) (joined f xs ++ r) width (size x (h .0)))
+        ∙ items-pass test pass n xs (h .1) (omega arith) r
+
+-- one item more is tested
+pub every-item : (test : List ℕ → Bool) (width i : ℕ) (w : List ℕ) (t u : Bool) → t ≡ every (itemsOf test width i w) → u ≡ test (drop (width * i) w)
+    → (t && u) ≡ every (itemsOf test width (i + 1) w)
+every-item test width i w t u e h = rw (e, h, items-more test width i w, every-more (itemsOf test width i w) (test (drop (width * i) w)))

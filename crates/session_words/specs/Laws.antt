@@ -1,18 +1,17 @@
--- Every session is read back from its words, and exactly the words that some session has are told to be a session's. `FitSession` says what every value of the record's type has and a
--- definition alone cannot see. Assumes nothing.
+-- Every session is read back from its words, and they are told to be a session's. `FitSession` says what every value of the record's type has and a definition alone cannot see.
+-- Assumes nothing.
 use mathlib.Core.Path.{_≡_, refl, sym, ap, _∙_}
 use mathlib.Core.Bool.{Bool, true, false, cond}
 use mathlib.Core.List.{List, [], _∷_, _++_, append-nil}
-use Prim.Native.Nat.{ℕ, suc, _+_, _*_, _%_, _<_}
+use Prim.Native.Nat.{ℕ, suc, _+_, _*_, _%_, _≤_, _<_}
 use native.Mathlib.Omega.{arith}
-use lib.Dec.{eqb}
+use lib.Dec.{eqb, leb}
 use lib.Ieee.{Float, binary64, ofBits}
 use lib.Ieee.Bits.{ofBits-toBits, ofBits-fits}
 use lib.ListN.{length, getD, drop, length-append}
-use lib.Seq.{drop-at, drop-drop, ext-getD}
-use borrow.Author.Tests.{eq-eqb, eqb-true}
-use Rattle.counting.specs.Every.{and-left, and-right}
-use Rattle.counting.specs.Laws.{all-build, all-at}
+use lib.Seq.{drop-at, drop-drop}
+use borrow.Author.Tests.{eq-eqb, le-leb, leb-true}
+use Rattle.counting.specs.Every.{every}
 use Rattle.little_endian.specs.Floats.{Fit}
 use Rattle.score.specs.declared.Event.{Event}
 use Rattle.score.specs.declared.Event.the-variants.{NoteOn, NoteOff, Pedal, HandDamp}
@@ -20,10 +19,10 @@ use Rattle.score.specs.declared.TimedEvent.{TimedEvent}
 use Rattle.session_cues.specs.declared.Cue.{Cue}
 use Rattle.session_record.specs.declared.Session.{Session}
 use Rattle.session_words.specs.Layout.{eventSize, timedSize, cueSize, cuePianoOffset, eventsOffset, cuesOffset, pianoOffset, sessionSize}
-use Rattle.session_words.specs.Items.{joined, itemsOf, AllOf, joined-length, items-back, items-length, all-items}
-use Rattle.session_words.specs.Piano.{pianoWords, pianoOf}
-use Rattle.session_words.specs.PianoLaws.{FitPiano, flag-back, piano-length, piano-back, fit-piano-of}
-use Rattle.session_words.specs.Session.{eventOf, eventWords, timedWords, timedOf, cueWords, cueOf, wordsOf, sessionOf, isSession}
+use Rattle.session_words.specs.Items.{joined, itemsOf, AllOf, joined-length, items-back, items-pass, items-length, all-items}
+use Rattle.session_words.specs.Piano.{bitOf, pianoWords, pianoOf, isPiano}
+use Rattle.session_words.specs.PianoLaws.{FitPiano, flag-back, piano-length, piano-back, piano-passes, fit-piano-of}
+use Rattle.session_words.specs.Session.{isEvent, eventOf, eventWords, timedWords, timedOf, cueWords, cueOf, wordsOf, sessionOf, isTimed, isCue, countedEvents, isSession}
 
 unfoldable pub FitEvent : Event → Type 0
 FitEvent (NoteOn k v) = (k < 256) × Fit v
@@ -80,6 +79,36 @@ cue-back : (c : Cue) → FitCue c → (r : List ℕ) → cueOf (cueWords c ++ r)
 unfolding cueWords cueOf
 cue-back c f r = rw (flag-back (c .kept) tt [], piano-back (c .piano) f r)
 
+-- ---- their words pass
+
+event-passes : (e : Event) → FitEvent e → (q : ℕ) (r : List ℕ) → isTimed (q ∷ (eventWords e ++ r)) ≡ true
+unfolding isEvent eventWords FitEvent
+event-passes (NoteOn k v) f q r = le-leb k 255 (omega (arith, f .0))
+event-passes (NoteOff k) f q r = le-leb k 255 (omega arith)
+event-passes (Pedal true) f q r = refl
+event-passes (Pedal false) f q r = refl
+event-passes (HandDamp k) f q r = le-leb k 255 (omega arith)
+
+timed-passes : (e : TimedEvent) → FitTimed e → (r : List ℕ) → isTimed (timedWords e ++ r) ≡ true
+unfolding timedWords
+timed-passes e f r = event-passes (e .event) f (e .position) r
+
+cue-passes : (c : Cue) → FitCue c → (r : List ℕ) → isCue (cueWords c ++ r) ≡ true
+unfolding cueWords isCue
+cue-passes c f r = go (c .kept)
+  where
+    go : (b : Bool) → isCue (bitOf b ∷ c .position ∷ (pianoWords (c .piano) ++ r)) ≡ true
+    go true = piano-passes (c .piano) f r
+    go false = refl
+
+pub few-counted : (n : ℕ) → countedEvents n ≤ 64
+unfolding countedEvents
+few-counted n = go (leb n 64) refl
+  where
+    go : (b : Bool) → leb n 64 ≡ b → cond b n 64 ≤ 64
+    go true e = leb-true n 64 e
+    go false e = omega arith
+
 -- ---- the session
 
 module _ (s : Session) (f : FitSession s) where
@@ -108,30 +137,39 @@ module _ (s : Session) (f : FitSession s) where
       let l1 = length-append x1 (x2 ++ x3) in
       omega arith
 
+  from-cues : drop cuesOffset (wordsOf s) ≡ x2 ++ x3
+  unfolding wordsOf
+  from-cues = sym (drop-drop (timedSize * 64) eventsOffset (wordsOf s)) ∙ drop-at x1 (x2 ++ x3) (timedSize * 64) events-length
+
+  from-piano : drop pianoOffset (wordsOf s) ≡ x3 ++ []
+  from-piano =
+      sym (drop-drop (cueSize * 4) cuesOffset (wordsOf s)) ∙ ap (drop (cueSize * 4)) from-cues ∙ drop-at x2 x3 (cueSize * 4) cues-length ∙ sym (append-nil x3)
+
   -- THE LAW: a session is read back from its words
   pub session-back : sessionOf (wordsOf s) ≡ s
   unfolding sessionOf wordsOf
   session-back =
-      let w = s .t ∷ s .count ∷ (x1 ++ (x2 ++ x3)) in
-      let e1 : drop eventsOffset w ≡ x1 ++ (x2 ++ x3) = refl in
-      let e2 : drop cuesOffset w ≡ x2 ++ x3 = sym (drop-drop (timedSize * 64) eventsOffset w) ∙ drop-at x1 (x2 ++ x3) (timedSize * 64) events-length in
-      let e3 : drop pianoOffset w ≡ x3 = sym (drop-drop (cueSize * 4) cuesOffset w) ∙ ap (drop (cueSize * 4)) e2 ∙ drop-at x2 x3 (cueSize * 4) cues-length in
-      let h1 : itemsOf timedOf timedSize 64 (drop eventsOffset w) ≡ s .events =
+      let h1 : itemsOf timedOf timedSize 64 (drop eventsOffset (wordsOf s)) ≡ s .events =
       ap (λ (n : ℕ). itemsOf timedOf timedSize n (x1 ++ (x2 ++ x3))) (sym (f .eventsLong))
       ∙ items-back FitTimed timedWords timedSize (λ e h. timed-size e) timedOf timed-back (s .events) (f .events) (x2 ++ x3) in
-      let h2 : itemsOf cueOf cueSize 4 (drop cuesOffset w) ≡ s .cues =
-      ap (itemsOf cueOf cueSize 4) e2 ∙ ap (λ (n : ℕ). itemsOf cueOf cueSize n (x2 ++ x3)) (sym (f .cuesLong))
+      let h2 : itemsOf cueOf cueSize 4 (drop cuesOffset (wordsOf s)) ≡ s .cues =
+      ap (itemsOf cueOf cueSize 4) from-cues ∙ ap (λ (n : ℕ). itemsOf cueOf cueSize n (x2 ++ x3)) (sym (f .cuesLong))
       ∙ items-back FitCue cueWords cueSize cue-length cueOf cue-back (s .cues) (f .cues) x3 in
-      let h3 : pianoOf (drop pianoOffset w) ≡ s .piano = ap pianoOf (e3 ∙ sym (append-nil x3)) ∙ piano-back (s .piano) (f .piano) [] in
+      let h3 : pianoOf (drop pianoOffset (wordsOf s)) ≡ s .piano = ap pianoOf from-piano ∙ piano-back (s .piano) (f .piano) [] in
       rw (h1, h2, h3)
 
   -- a session's words are told to be one's
   pub words-are : isSession (wordsOf s) ≡ true
-  unfolding isSession
+  unfolding isSession wordsOf
   words-are =
-      rw (eq-eqb (length (wordsOf s)) sessionSize words-length)
-      (all-build sessionSize (λ i. eqb (getD (wordsOf s) i 0) (getD (wordsOf (sessionOf (wordsOf s))) i 0))
-      (λ i h. eq-eqb (getD (wordsOf s) i 0) (getD (wordsOf (sessionOf (wordsOf s))) i 0) (ap (λ (z : Session). getD (wordsOf z) i 0) (sym session-back))))
+      let events : every (itemsOf isTimed timedSize (countedEvents (s .count)) (x1 ++ (x2 ++ x3))) ≡ true =
+      items-pass FitTimed timedWords timedSize (λ e h. timed-size e) isTimed timed-passes (countedEvents (s .count)) (s .events) (f .events)
+      (omega (arith, few-counted (s .count), f .eventsLong)) (x2 ++ x3) in
+      let cues : every (itemsOf isCue cueSize 4 (drop cuesOffset (wordsOf s))) ≡ true =
+      ap (λ (l : List ℕ). every (itemsOf isCue cueSize 4 l)) from-cues
+      ∙ items-pass FitCue cueWords cueSize cue-length isCue cue-passes 4 (s .cues) (f .cues) (omega (arith, f .cuesLong)) x3 in
+      let piano : isPiano (drop pianoOffset (wordsOf s)) ≡ true = ap isPiano from-piano ∙ piano-passes (s .piano) (f .piano) [] in
+      rw (eq-eqb (length (wordsOf s)) sessionSize words-length, events, cues, piano)
 
 -- ---- whatever the words are, what is read from them is a value of the type
 
@@ -165,12 +203,3 @@ fit-of w =
       cues = all-items FitCue cueOf fit-cue-of cueSize 4 (drop cuesOffset w);
       piano = fit-piano-of (drop pianoOffset w);
     }
-
--- THE LAW: words that are told to be a session's are those of the session read from them
-pub are-words : (w : List ℕ) → isSession w ≡ true → wordsOf (sessionOf w) ≡ w
-unfolding isSession
-are-words w h =
-    let here : length w ≡ sessionSize = eqb-true (length w) sessionSize (and-left (eqb (length w) sessionSize) _ h) in
-    let there = words-length (sessionOf w) (fit-of w) in
-    let each = all-at (λ i. eqb (getD w i 0) (getD (wordsOf (sessionOf w)) i 0)) sessionSize (and-right (eqb (length w) sessionSize) _ h) in
-    ext-getD 0 (wordsOf (sessionOf w)) w (there ∙ sym here) (λ i k. sym (eqb-true (getD w i 0) (getD (wordsOf (sessionOf w)) i 0) (each i (omega (arith, there)))))

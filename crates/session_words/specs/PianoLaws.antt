@@ -1,4 +1,4 @@
--- Every piano is read back from its words. `FitPiano` says what every value of the record's type has and a definition alone cannot see: its floats are f64s, its arrays as long as
+-- Every piano is read back from its words, and they are told to be one's. `FitPiano` says what every value of the record's type has and a definition alone cannot see: its floats are f64s, its arrays as long as
 -- declared. Assumes nothing.
 use mathlib.Core.Path.{_≡_, refl, sym, ap, _∙_}
 use mathlib.Core.Bool.{Bool, true, false, cond}
@@ -10,14 +10,15 @@ use lib.Ieee.{Float, binary64, ofBits, toBits}
 use lib.Ieee.Bits.{ofBits-toBits, ofBits-fits}
 use lib.ListN.{length, getD, drop, length-append}
 use lib.Seq.{drop-at, drop-drop}
+use Rattle.counting.specs.Every.{every}
 use Rattle.little_endian.specs.Floats.{Fit}
 use Rattle.points.specs.declared.HammerState.{HammerState}
 use Rattle.points.specs.declared.HammerState.the-variants.{Resting, Flying}
 use Rattle.sample.specs.declared.Motion.{Motion}
 use Rattle.score.specs.declared.Piano.{Piano}
 use Rattle.session_words.specs.Layout.{hammerSize, motionSize, peakOffset, handDampedOffset, dampersOffset, contactsOffset, pedalOffset, motionOffset, pianoSize}
-use Rattle.session_words.specs.Items.{joined, itemsOf, AllOf, joined-length, items-length, items-back, all-items}
-use Rattle.session_words.specs.Piano.{bitOf, flagWord, flagOf, floatWord, floatOf, countWord, countOf, hammerWords, hammerFrom, motionWords, motionOf, pianoWords, pianoOf}
+use Rattle.session_words.specs.Items.{joined, itemsOf, AllOf, joined-length, items-length, items-back, items-pass, all-items}
+use Rattle.session_words.specs.Piano.{bitOf, flagWord, flagOf, floatWord, floatOf, countWord, countOf, hammerWords, hammerFrom, motionWords, motionOf, pianoWords, pianoOf, isFlag, isPiano}
 
 -- nothing is asked
 abbrev pub Any : {A : Type 0} → A → Type 0
@@ -49,6 +50,10 @@ all-any (x ∷ xs) = (tt, all-any xs)
 pub flag-back : (b : Bool) → Any b → (r : List ℕ) → flagOf (flagWord b ++ r) ≡ b
 flag-back true h r = refl
 flag-back false h r = refl
+
+flag-passes : (b : Bool) → Any b → (r : List ℕ) → isFlag (flagWord b ++ r) ≡ true
+flag-passes true h r = refl
+flag-passes false h r = refl
 
 pub float-back : (x : Float) → Fit x → (r : List ℕ) → floatOf (floatWord x ++ r) ≡ x
 float-back x h r = ofBits-toBits binary64 x h
@@ -84,6 +89,14 @@ motion-back : (m : Motion) → FitMotion m → (r : List ℕ) → motionOf (moti
 unfolding motionWords
 motion-back m f r = motion-from (m .«peak_force») r (f .peak) (m .hammer) (f .hammer)
 
+motion-passes : (m : Motion) (r : List ℕ) → isFlag (motionWords m ++ r) ≡ true
+unfolding motionWords hammerWords
+motion-passes m r = go (m .hammer)
+  where
+    go : (h : HammerState) → isFlag ((hammerWords h ++ (toBits binary64 (m .«peak_force») ∷ [])) ++ r) ≡ true
+    go Resting = refl
+    go (Flying k y v) = refl
+
 -- ---- the piano
 
 module _ (p : Piano) (f : FitPiano p) where
@@ -110,46 +123,93 @@ module _ (p : Piano) (f : FitPiano p) where
       let l1 = length-append x1 (x2 ++ (x3 ++ (x4 ++ x5))) in
       omega arith
 
-  -- THE LAW: a piano is read back from its words
-  pub piano-back : (r : List ℕ) → pianoOf (pianoWords p ++ r) ≡ p
-  unfolding pianoOf pianoWords
-  piano-back r =
-      let x1 = joined flagWord (p .held) in
-      let x2 = joined flagWord (p .«hand_damped») in
-      let x3 = joined floatWord (p .«damper_r») in
-      let x4 = joined countWord (p .«contact_samples») in
-      let m = motionWords (p .motion) in
-      let b = bitOf (p .pedal) in
-      let t4 = b ∷ (m ++ r) in
-      let t3 = x4 ++ t4 in
-      let t2 = x3 ++ t3 in
-      let t1 = x2 ++ t2 in
-      let w = (x1 ++ (x2 ++ (x3 ++ (x4 ++ (b ∷ m))))) ++ r in
-      let e0 : w ≡ x1 ++ t1 =
-      append-assoc x1 (x2 ++ (x3 ++ (x4 ++ (b ∷ m)))) r
+-- where each part of a piano's words stands, whatever follows them
+module _ (p : Piano) (f : FitPiano p) (r : List ℕ) where
+  abbrev whole : List ℕ
+  whole = pianoWords p ++ r
+
+  abbrev x1 : List ℕ
+  x1 = joined flagWord (p .held)
+
+  abbrev x2 : List ℕ
+  x2 = joined flagWord (p .«hand_damped»)
+
+  abbrev x3 : List ℕ
+  x3 = joined floatWord (p .«damper_r»)
+
+  abbrev x4 : List ℕ
+  x4 = joined countWord (p .«contact_samples»)
+
+  abbrev x5 : List ℕ
+  x5 = bitOf (p .pedal) ∷ motionWords (p .motion)
+
+  abbrev t4 : List ℕ
+  t4 = x5 ++ r
+
+  abbrev t3 : List ℕ
+  t3 = x4 ++ t4
+
+  abbrev t2 : List ℕ
+  t2 = x3 ++ t3
+
+  abbrev t1 : List ℕ
+  t1 = x2 ++ t2
+
+  from-held : whole ≡ x1 ++ t1
+  unfolding pianoWords
+  from-held =
+      append-assoc x1 (x2 ++ (x3 ++ (x4 ++ x5))) r
       ∙ ap (λ (l : List ℕ). x1 ++ l)
-      (append-assoc x2 (x3 ++ (x4 ++ (b ∷ m))) r
-      ∙ ap (λ (l : List ℕ). x2 ++ l) (append-assoc x3 (x4 ++ (b ∷ m)) r ∙ ap (λ (l : List ℕ). x3 ++ l) (append-assoc x4 (b ∷ m) r))) in
-      let e1 : drop handDampedOffset w ≡ t1 = ap (drop 16) e0 ∙ drop-at x1 t1 16 (flags-length (p .held) ∙ f .heldLong) in
-      let e2 : drop dampersOffset w ≡ t2 = sym (drop-drop 16 handDampedOffset w) ∙ ap (drop 16) e1 ∙ drop-at x2 t2 16 (flags-length (p .«hand_damped») ∙ f .handLong) in
-      let e3 : drop contactsOffset w ≡ t3 = sym (drop-drop 16 dampersOffset w) ∙ ap (drop 16) e2 ∙ drop-at x3 t3 16 (floats-length (p .«damper_r») ∙ f .damperLong) in
-      let e4 : drop pedalOffset w ≡ t4 = sym (drop-drop 16 contactsOffset w) ∙ ap (drop 16) e3 ∙ drop-at x4 t4 16 (counts-length (p .«contact_samples») ∙ f .contactsLong) in
-      let e5 : drop motionOffset w ≡ m ++ r = sym (drop-drop 1 pedalOffset w) ∙ ap (drop 1) e4 in
-      let h1 : itemsOf flagOf 1 16 w ≡ p .held =
-      ap (itemsOf flagOf 1 16) e0 ∙ ap (λ (n : ℕ). itemsOf flagOf 1 n (x1 ++ t1)) (sym (f .heldLong))
+      (append-assoc x2 (x3 ++ (x4 ++ x5)) r ∙ ap (λ (l : List ℕ). x2 ++ l) (append-assoc x3 (x4 ++ x5) r ∙ ap (λ (l : List ℕ). x3 ++ l) (append-assoc x4 x5 r)))
+
+  from-hand-damped : drop handDampedOffset whole ≡ t1
+  from-hand-damped = ap (drop 16) from-held ∙ drop-at x1 t1 16 (flags-length (p .held) ∙ f .heldLong)
+
+  from-dampers : drop dampersOffset whole ≡ t2
+  from-dampers = sym (drop-drop 16 handDampedOffset whole) ∙ ap (drop 16) from-hand-damped ∙ drop-at x2 t2 16 (flags-length (p .«hand_damped») ∙ f .handLong)
+
+  from-contacts : drop contactsOffset whole ≡ t3
+  from-contacts = sym (drop-drop 16 dampersOffset whole) ∙ ap (drop 16) from-dampers ∙ drop-at x3 t3 16 (floats-length (p .«damper_r») ∙ f .damperLong)
+
+  from-pedal : drop pedalOffset whole ≡ t4
+  from-pedal = sym (drop-drop 16 contactsOffset whole) ∙ ap (drop 16) from-contacts ∙ drop-at x4 t4 16 (counts-length (p .«contact_samples») ∙ f .contactsLong)
+
+  from-motion : drop motionOffset whole ≡ motionWords (p .motion) ++ r
+  from-motion = sym (drop-drop 1 pedalOffset whole) ∙ ap (drop 1) from-pedal
+
+  -- THE LAW: a piano is read back from its words
+  pub piano-back : pianoOf whole ≡ p
+  unfolding pianoOf
+  piano-back =
+      let h1 : itemsOf flagOf 1 16 whole ≡ p .held =
+      ap (itemsOf flagOf 1 16) from-held ∙ ap (λ (n : ℕ). itemsOf flagOf 1 n (x1 ++ t1)) (sym (f .heldLong))
       ∙ items-back Any flagWord 1 (λ x h. refl) flagOf flag-back (p .held) (all-any (p .held)) t1 in
-      let h2 : itemsOf flagOf 1 16 (drop handDampedOffset w) ≡ p .«hand_damped» =
-      ap (itemsOf flagOf 1 16) e1 ∙ ap (λ (n : ℕ). itemsOf flagOf 1 n (x2 ++ t2)) (sym (f .handLong))
+      let h2 : itemsOf flagOf 1 16 (drop handDampedOffset whole) ≡ p .«hand_damped» =
+      ap (itemsOf flagOf 1 16) from-hand-damped ∙ ap (λ (n : ℕ). itemsOf flagOf 1 n (x2 ++ t2)) (sym (f .handLong))
       ∙ items-back Any flagWord 1 (λ x h. refl) flagOf flag-back (p .«hand_damped») (all-any (p .«hand_damped»)) t2 in
-      let h3 : itemsOf floatOf 1 16 (drop dampersOffset w) ≡ p .«damper_r» =
-      ap (itemsOf floatOf 1 16) e2 ∙ ap (λ (n : ℕ). itemsOf floatOf 1 n (x3 ++ t3)) (sym (f .damperLong))
+      let h3 : itemsOf floatOf 1 16 (drop dampersOffset whole) ≡ p .«damper_r» =
+      ap (itemsOf floatOf 1 16) from-dampers ∙ ap (λ (n : ℕ). itemsOf floatOf 1 n (x3 ++ t3)) (sym (f .damperLong))
       ∙ items-back Fit floatWord 1 (λ x h. refl) floatOf float-back (p .«damper_r») (f .dampers) t3 in
-      let h4 : itemsOf countOf 1 16 (drop contactsOffset w) ≡ p .«contact_samples» =
-      ap (itemsOf countOf 1 16) e3 ∙ ap (λ (n : ℕ). itemsOf countOf 1 n (x4 ++ t4)) (sym (f .contactsLong))
+      let h4 : itemsOf countOf 1 16 (drop contactsOffset whole) ≡ p .«contact_samples» =
+      ap (itemsOf countOf 1 16) from-contacts ∙ ap (λ (n : ℕ). itemsOf countOf 1 n (x4 ++ t4)) (sym (f .contactsLong))
       ∙ items-back Any countWord 1 (λ x h. refl) countOf count-back (p .«contact_samples») (all-any (p .«contact_samples»)) t4 in
-      let h5 : flagOf (drop pedalOffset w) ≡ p .pedal = ap flagOf e4 ∙ flag-back (p .pedal) tt (m ++ r) in
-      let h6 : motionOf (drop motionOffset w) ≡ p .motion = ap motionOf e5 ∙ motion-back (p .motion) (f .motion) r in
+      let h5 : flagOf (drop pedalOffset whole) ≡ p .pedal = ap flagOf from-pedal ∙ flag-back (p .pedal) tt (motionWords (p .motion) ++ r) in
+      let h6 : motionOf (drop motionOffset whole) ≡ p .motion = ap motionOf from-motion ∙ motion-back (p .motion) (f .motion) r in
       rw (h1, h2, h3, h4, h5, h6)
+
+  -- a piano's words are told to be one's
+  pub piano-passes : isPiano whole ≡ true
+  unfolding isPiano
+  piano-passes =
+      let held : every (itemsOf isFlag 1 16 whole) ≡ true =
+      ap (λ (l : List ℕ). every (itemsOf isFlag 1 16 l)) from-held
+      ∙ items-pass Any flagWord 1 (λ x h. refl) isFlag flag-passes 16 (p .held) (all-any (p .held)) (omega (arith, f .heldLong)) t1 in
+      let damped : every (itemsOf isFlag 1 16 (drop handDampedOffset whole)) ≡ true =
+      ap (λ (l : List ℕ). every (itemsOf isFlag 1 16 l)) from-hand-damped
+      ∙ items-pass Any flagWord 1 (λ x h. refl) isFlag flag-passes 16 (p .«hand_damped») (all-any (p .«hand_damped»)) (omega (arith, f .handLong)) t2 in
+      let pedal : isFlag (drop pedalOffset whole) ≡ true = ap isFlag from-pedal ∙ flag-passes (p .pedal) tt (motionWords (p .motion) ++ r) in
+      let hammer : isFlag (drop motionOffset whole) ≡ true = ap isFlag from-motion ∙ motion-passes (p .motion) r in
+      rw (held, damped, pedal, hammer)
 
 -- ---- whatever the words are, what is read from them is a value of the type
 

@@ -7,7 +7,7 @@ use Prim.Native.Nat.{ℕ, _%_}
 use lib.Dec.{eqb, leb}
 use lib.Ieee.{Float, binary64, ofBits, toBits}
 use lib.ListN.{length, getD, drop}
-use Rattle.counting.specs.Below.{allBelow}
+use Rattle.counting.specs.Every.{every}
 use Rattle.score.specs.declared.Event.{Event}
 use Rattle.score.specs.declared.Event.the-variants.{NoteOn, NoteOff, Pedal, HandDamp}
 use Rattle.score.specs.declared.TimedEvent.{TimedEvent}
@@ -15,7 +15,7 @@ use Rattle.session_cues.specs.declared.Cue.{Cue}
 use Rattle.session_record.specs.declared.Session.{Session}
 use Rattle.session_words.specs.Layout.{timedSize, cueSize, cuePianoOffset, eventsOffset, cuesOffset, pianoOffset, sessionSize}
 use Rattle.session_words.specs.Items.{joined, itemsOf}
-use Rattle.session_words.specs.Piano.{bitOf, pianoWords, pianoOf}
+use Rattle.session_words.specs.Piano.{bitOf, pianoWords, pianoOf, isPiano}
 use Rattle.session_words.specs.declared.Read.{Read}
 
 -- ---- an event by its numbers
@@ -60,10 +60,23 @@ sessionOf w =
       piano = pianoOf (drop pianoOffset w);
     }
 
--- ---- which words are a session's: those that the session read from them has
+-- ---- which words are a session's: as many as it has, and each that counts has a meaning. What counts for nothing may hold anything: events past the count, a cue that is not kept, and
+-- the velocity of an event that is not a strike
+
+abbrev pub isTimed : List ℕ → Bool
+isTimed w = isEvent (getD w 1 0) (getD w 2 0)
+
+unfoldable pub isCue : List ℕ → Bool
+isCue w = cond (eqb (getD w 0 0) 0) true (eqb (getD w 0 0) 1 && isPiano (drop cuePianoOffset w))
+
+-- how many of the 64 events a count counts; a count above 64 is refusal 7's
+unfoldable pub countedEvents : ℕ → ℕ
+countedEvents n = cond (leb n 64) n 64
 
 unfoldable pub isSession : List ℕ → Bool
-isSession w = eqb (length w) sessionSize && allBelow sessionSize (λ i. eqb (getD w i 0) (getD (wordsOf (sessionOf w)) i 0))
+isSession w =
+    eqb (length w) sessionSize
+    && (every (itemsOf isTimed timedSize (countedEvents (getD w 1 0)) (drop eventsOffset w)) && every (itemsOf isCue cueSize 4 (drop cuesOffset w)) && isPiano (drop pianoOffset w))
 
 -- what reading w promises
 pub record ReadMeets (w : List ℕ) (r : Read) : Type 0 where

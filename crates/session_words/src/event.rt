@@ -1,11 +1,12 @@
-// An event by its numbers, a timed event and the score's 64 as words.
+// An event by its numbers, a timed event and the score's 64 as words, and whether words are theirs.
 ghost use mathlib.Core.Path.{_≡_};
 ghost use Prim.Native.Nat.{_+_, _≤_};
-ghost use lib.ListN.{length, drop};
+ghost use lib.ListN.{length, getD, drop};
 ghost use lib.Seq.{sets};
+ghost use Rattle.counting.specs.Every.{every};
 ghost use Rattle.session_words.specs.Layout.{eventSize, timedSize, eventsOffset, cuesOffset};
 ghost use Rattle.session_words.specs.Items.{joined, itemsOf};
-ghost use Rattle.session_words.specs.Session.{eventOf, isEvent, eventWords, timedWords, timedOf};
+ghost use Rattle.session_words.specs.Session.{eventOf, isEvent, eventWords, timedWords, timedOf, isTimed, countedEvents};
 use crate::layout::EVENTS_OFFSET;
 use crate::layout::TIMED_SIZE;
 use crate::word::bit_of;
@@ -108,4 +109,34 @@ pub fn events_at(words: &[u64]) -> [TimedEvent; 64]
         events[i] = timed;
     }
     events
+}
+
+fn is_timed(words: &[u64], at: usize) -> bool
+    requires { ⌜ at + timedSize ≤ length (now words) ⌝ }
+    ensures { λ r. ⌜ r ≡ isTimed (drop at (now (words .entry))) ⌝ }
+{
+    let kind = word_at(words, at + 1);
+    let key = word_at(words, at + 2);
+    is_event(kind, key)
+}
+
+fn counted_events(count: u64) -> usize
+    ensures { λ r. ⌜ r ≡ countedEvents count ⌝ }
+{
+    if count <= 64 { count as usize } else { 64 }
+}
+
+// Events past the count may hold anything.
+pub fn are_events(words: &[u64]) -> bool
+    requires { ⌜ cuesOffset ≤ length (now words) ⌝ }
+    ensures { λ r. ⌜ r ≡ every (itemsOf isTimed timedSize (countedEvents (getD (now (words .entry)) 1 0)) (drop eventsOffset (now (words .entry)))) ⌝ }
+{
+    let count = word_at(words, 1);
+    let n = counted_events(count);
+    let mut right = true;
+    for i in 0usize..n {
+        let event = is_timed(words, EVENTS_OFFSET + TIMED_SIZE * i);
+        right = right & event;
+    }
+    right
 }

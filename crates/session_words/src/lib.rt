@@ -1,4 +1,4 @@
-// The session's record as 616 words in a lent slice, so that it can cross to C and Rust. What is written is read back, and words that no session has are told apart.
+// The session's record as 616 words in a lent slice, so that it can cross to C and Rust. What is written is read back, and words that count and have no meaning are told.
 mod cue;
 mod event;
 mod layout;
@@ -7,20 +7,21 @@ mod word;
 
 ghost use mathlib.Core.Path.{_≡_};
 ghost use Prim.Native.Nat.{_≤_};
-ghost use lib.Dec.{eqb};
-ghost use lib.ListN.{length, getD};
+ghost use lib.ListN.{length};
 ghost use lib.Seq.{sets};
-ghost use Rattle.counting.specs.Below.{allBelow};
 ghost use Rattle.session_words.specs.Layout.{sessionSize};
 ghost use Rattle.session_words.specs.Session.{wordsOf, sessionOf, ReadMeets, PutMeets};
+use cue::are_cues;
 use cue::cues_at;
 use cue::put_cues;
+use event::are_events;
 pub use event::event_of;
 use event::events_at;
 pub use event::is_event;
 use event::put_events;
 use layout::PIANO_OFFSET;
 use layout::SESSION_SIZE;
+use piano::is_piano;
 use piano::piano_at;
 use piano::put_piano;
 use session_record::Session;
@@ -74,17 +75,6 @@ fn blank() -> [u64; LENGTH]
     [0u64; LENGTH]
 }
 
-fn same(words: &[u64], others: &[u64]) -> bool
-    requires { ⌜ (length (now words) ≡ sessionSize) × (length (now others) ≡ sessionSize) ⌝ }
-    ensures { λ r. ⌜ r ≡ allBelow sessionSize (λ i. eqb (getD (now (words .entry)) i 0) (getD (now (others .entry)) i 0)) ⌝ }
-{
-    let mut alike = true;
-    for i in 0usize..LENGTH {
-        alike = alike & (words[i] == others[i]);
-    }
-    alike
-}
-
 // The session is written where the slice has its length; else nothing changes.
 pub fn put_session(words: &mut [u64], session: Session) -> bool
     ensures { λ r. ⌜ PutMeets session (now (words .entry)) r (now (words .exit)) ⌝ }
@@ -96,17 +86,17 @@ pub fn put_session(words: &mut [u64], session: Session) -> bool
     false
 }
 
-// Words are a session's where writing what was read gives them back. Where they are none, the session given is no one's.
+// Words are a session's where each that counts has a meaning. Where they are none, the session given is no one's.
 pub fn session_at(words: &[u64]) -> Read
     ensures { λ r. ⌜ ReadMeets (now (words .entry)) r ⌝ }
 {
     if words.len() == LENGTH {
+        let events = are_events(words);
+        let cues = are_cues(words);
+        let piano = is_piano(words, PIANO_OFFSET);
         let session = session_in(words);
-        let mut again = blank();
-        put_words(&mut again, session);
-        let is_session = same(words, &again);
         return Read {
-            is_session,
+            is_session: events & cues & piano,
             session,
         };
     }

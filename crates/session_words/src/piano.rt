@@ -1,11 +1,12 @@
-// A piano's small state as words from `at` on.
+// A piano's small state as words from `at` on, and whether words are one's.
 ghost use mathlib.Core.Path.{_≡_};
 ghost use Prim.Native.Nat.{_+_, _≤_};
 ghost use lib.ListN.{length, drop};
 ghost use lib.Seq.{sets};
+ghost use Rattle.counting.specs.Every.{every};
 ghost use Rattle.session_words.specs.Layout.{hammerSize, motionSize, pianoSize};
 ghost use Rattle.session_words.specs.Items.{joined, itemsOf};
-ghost use Rattle.session_words.specs.Piano.{flagWord, flagOf, floatWord, floatOf, countWord, countOf, hammerWords, hammerFrom, motionWords, motionOf, pianoWords, pianoOf};
+ghost use Rattle.session_words.specs.Piano.{flagWord, flagOf, floatWord, floatOf, countWord, countOf, hammerWords, hammerFrom, motionWords, motionOf, pianoWords, pianoOf, isFlag, isPiano};
 use crate::layout::CONTACTS_OFFSET;
 use crate::layout::DAMPERS_OFFSET;
 use crate::layout::HAND_DAMPED_OFFSET;
@@ -13,6 +14,7 @@ use crate::layout::MOTION_OFFSET;
 use crate::layout::PEAK_OFFSET;
 use crate::layout::PEDAL_OFFSET;
 use crate::word::bit_of;
+use crate::word::is_flag;
 use crate::word::put_three;
 use crate::word::put_word;
 use crate::word::word_at;
@@ -38,6 +40,18 @@ fn flags_at(words: &[u64], at: usize) -> [bool; 16]
         flags[i] = word_at(words, at + i) == 1;
     }
     flags
+}
+
+fn are_flags(words: &[u64], at: usize) -> bool
+    requires { ⌜ at + 16 ≤ length (now words) ⌝ }
+    ensures { λ r. ⌜ r ≡ every (itemsOf isFlag 1 16 (drop at (now (words .entry)))) ⌝ }
+{
+    let mut right = true;
+    for i in 0usize..16usize {
+        let flag = is_flag(words, at + i);
+        right = right & flag;
+    }
+    right
 }
 
 fn put_floats(words: &mut [u64], at: usize, floats: [f64; 16])
@@ -182,4 +196,15 @@ pub fn piano_at(words: &[u64], at: usize) -> Piano
         pedal,
         motion,
     }
+}
+
+pub fn is_piano(words: &[u64], at: usize) -> bool
+    requires { ⌜ at + pianoSize ≤ length (now words) ⌝ }
+    ensures { λ r. ⌜ r ≡ isPiano (drop at (now (words .entry))) ⌝ }
+{
+    let held = are_flags(words, at);
+    let hand_damped = are_flags(words, at + HAND_DAMPED_OFFSET);
+    let pedal = is_flag(words, at + PEDAL_OFFSET);
+    let hammer = is_flag(words, at + MOTION_OFFSET);
+    held & hand_damped & pedal & hammer
 }

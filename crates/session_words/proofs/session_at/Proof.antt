@@ -1,38 +1,32 @@
--- What was read is written again and compared, word by word: `read-whole`. Where the length is another, no session is told: `read-none`. Assumes nothing.
+-- Events, cues and piano are tested, and the session is read: `read-whole`. Where the length is another, no session is told: `read-none`. Assumes nothing.
 use Rattle.session_words.proofs.Pieces.{read-whole, read-none}
 use borrow.Author.Needs.{needs}
 use Rattle.session_words.proofs.session_at.Statement.{statement}
 use Rattle.session_words.proofs.session_at.Tie as tie
 
+are-events-requires : tie.Need-are-events-requires
+are-events-requires c κs = search needs
+
+are-cues-requires : tie.Need-are-cues-requires
+are-cues-requires c κs = search needs
+
+is-piano-requires : tie.Need-is-piano-requires
+is-piano-requires c κs = search needs
+
 session-in-requires : tie.Need-session-in-requires
 session-in-requires c κs = search needs
 
-blank-requires : tie.Need-blank-requires
-blank-requires c κs = search needs
-
-slice-aggregate-put-words : tie.Need-slice-aggregate-put-words
-slice-aggregate-put-words c = search needs
-
-put-words-requires : tie.Need-put-words-requires
-put-words-requires c κs = search needs
-
-slice-aggregate-same : tie.Need-slice-aggregate-same
-slice-aggregate-same c = search needs
-
-same-requires : tie.Need-same-requires
-same-requires c κs = search needs
-
 returns : tie.Need-returns
 returns c =
-    let again = c .before .before .before in
-    let none = again .before .before in
-    let session = none .before in
-    let long = session .before in
+    let piano = c .before in
+    let cues = piano .before in
+    let events = cues .before in
+    let long = events .before in
     let z = long .before .before .args in
-    read-whole (z .words .now) _ (session .session-in .ensures) _ _ _ (long .if1 .taken) (none .blank .ensures) (again .put-words .ensures) (c .same .ensures)
+    read-whole (z .words .now) _ (c .session-in .ensures) _ _ _ (long .if1 .taken) (events .are-events .ensures) (cues .are-cues .ensures) (piano .is-piano .ensures)
 
-blank-requires-2 : tie.Need-blank-requires-2
-blank-requires-2 c κs = search needs
+blank-requires : tie.Need-blank-requires
+blank-requires c κs = search needs
 
 slice-aggregate-session-in : tie.Need-slice-aggregate-session-in
 slice-aggregate-session-in c = search needs
@@ -49,14 +43,12 @@ pub session-at-spec : {M : Type 1} → statement M
 session-at-spec =
     tie.close
     (tie.spec
+    are-events-requires
+    are-cues-requires
+    is-piano-requires
     session-in-requires
-    blank-requires
-    slice-aggregate-put-words
-    put-words-requires
-    slice-aggregate-same
-    same-requires
     returns
-    blank-requires-2
+    blank-requires
     slice-aggregate-session-in
     session-in-requires-2
     returns-2)
