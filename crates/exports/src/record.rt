@@ -131,7 +131,7 @@ fn string_rows(strings: [LoopDesign; 32]) -> [StringRow; 32] {
 
 #[no_mangle]
 pub extern "C" fn instrument_read(file: &[u8]) -> Reading {
-    let answer = instrument_encoding::read_file(file);
+    let answer = instrument_file::read(file);
     let instrument = answer.instrument;
     let common_read = instrument.common;
     let keys_read = instrument.keys;

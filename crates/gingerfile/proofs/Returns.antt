@@ -1,7 +1,7 @@
 -- What each return of a call from C or Rust gives, over plain values: what `begin` promises and what the session's call promises make the call's promise. Assumes nothing.
 use mathlib.Core.Path.{_≡_, refl, sym, ap, _∙_, subst}
 use mathlib.Core.Bool.{Bool, true, false, _&&_, cond}
-use mathlib.Core.List.{List, map}
+use mathlib.Core.List.{List, [], map}
 use Prim.Native.Nat.{ℕ, _+_, _*_, _≤_, _<_}
 use native.Mathlib.Numerals.{add-one}
 use native.Mathlib.Omega.{arith}
@@ -9,102 +9,40 @@ use lib.Dec.{eqb}
 use lib.Ieee.{Float, binary64, ofBits}
 use lib.ListN.{length, take, getD, set, length-map, List·getD-map}
 use lib.Seq.{take-suc, take-suc-set, take-all}
-use borrow.Author.Tests.{eq-eqb, ne-eqb, eqb-true, eqb-false}
-use Rattle.counting.specs.Every.{and-left}
+use borrow.Author.Tests.{eq-eqb, eqb-true}
+use Rattle.counting.specs.Below.{allBelow}
 use Rattle.counting.specs.Meets.{meets-refused, meets-accepted}
+use Rattle.little_endian.specs.Bytes.{Bytes}
 use Rattle.instrument.specs.declared.Instrument.{Instrument}
 use Rattle.instrument_file.specs.declared.ReadAnswer.{ReadAnswer}
 use Rattle.instrument_file.specs.File.{readOf}
-use Rattle.instrument.specs.Work.{countedPart}
-use Rattle.machine.specs.Refusals.{scratchCells}
 use Rattle.instrument_writer.specs.declared.WriteAnswer.{WriteAnswer}
 use Rattle.instrument_writer.specs.Write.{WriteMeets}
+use Rattle.instrument_writer.specs.Saving.{read-written}
 use Rattle.weights.specs.declared.Adjusted.{Adjusted}
 use Rattle.weights.specs.Weights.{weightedBy, wholePairs}
 use Rattle.session_record.specs.declared.Session.{Session}
+use Rattle.session.specs.declared.Answer.{Answer}
 use Rattle.session.specs.declared.Outcome.{Outcome}
+use Rattle.session.specs.Calls.{ScratchStays}
 use Rattle.energies.specs.declared.EnergiesAnswer.{EnergiesAnswer}
 use Rattle.energies.specs.Energy.{EnergiesMeet}
-use Rattle.session_words.specs.declared.Read.{Read}
 use Rattle.session_words.specs.Layout.{sessionSize}
-use Rattle.session_words.specs.Session.{sessionOf, isSession, isEvent, ReadMeets, PutMeets}
-use Rattle.gingerfile.specs.declared.Begun.{Begun}
-use Rattle.gingerfile.specs.declared.Report.{Report}
+use Rattle.session_words.specs.Session.{sessionOf, isSession, isEvent}
+use Rattle.crossing.specs.declared.Begun.{Begun}
+use Rattle.crossing.specs.declared.Report.{Report}
 use Rattle.gingerfile.specs.declared.KeyEnergies.{KeyEnergies}
-use Rattle.gingerfile.specs.Adjust.{writtenAs, AdjustMeets}
+use Rattle.gingerfile.specs.Adjust.{writtenAs, AdjustMeets, GivesBack}
 use Rattle.gingerfile.specs.Energies.{noEnergies, flatOf, EnergiesCross}
-use Rattle.gingerfile.specs.Crossing.{refusedBy, reportOf, sizesOf, handedRefusal, Begins, Keeps, Crosses}
+use Rattle.crossing.specs.Crossing.{refusedBy, reportOf, handedRefusal, Begins, Keeps, Crosses}
+use Rattle.crossing.proofs.Returns.{nothing-refused, more-decides, refused-already, long}
 
--- ---- the file
+-- ---- scratch, where the report tells the number: an accepted call answers 0, so another number is a refused one's
 
-module _ (f : List ℕ) (g : ReadAnswer) (eg : g ≡ readOf f) where
-  pub sizes-refused : (n : ℕ) (x : Float) → (g .refusal ≡ 0 → ⊥) → n ≡ g .refusal → x ≡ ofBits binary64 0
-      → record { refusal = n; fs = x; keys = 0; strings = 0; words = 0; work = 0; scratch = 0 } ≡ sizesOf (readOf f)
-  unfolding sizesOf
-  sizes-refused n x h e k = rw (← eg, ne-eqb (g .refusal) 0 h, e, k)
-
-  pub sizes-given : (work scratch : ℕ) → g .refusal ≡ 0 → work ≡ 5 * countedPart (g .instrument) → scratch ≡ scratchCells (g .instrument)
-      → record {
-        refusal = 0;
-        fs = g .instrument .common .fs;
-        keys = g .instrument .«key_count»;
-        strings = g .instrument .«string_count»;
-        words = sessionSize;
-        work = work;
-        scratch = scratch;
-      } ≡ sizesOf (readOf f)
-  unfolding sizesOf
-  sizes-given work scratch h e k = rw (← eg, eq-eqb (g .refusal) 0 h, e, k)
-
--- ---- the number that refuses what is handed
-
-module _ (file : ℕ) (whole : Bool) where
-  -- nothing is refused where the file is accepted and the rest is what it must be
-  nothing-refused : handedRefusal file whole ≡ 0 → (file ≡ 0) × (whole ≡ true)
-  unfolding handedRefusal
-  nothing-refused h = go (eqb file 0) refl whole h
-    where
-      go : (b : Bool) → eqb file 0 ≡ b → (t : Bool) → cond b (cond t 0 7) file ≡ 0 → (file ≡ 0) × (t ≡ true)
-      go true e true h = (eqb-true file 0 e, refl)
-      go true e false h = absurd (omega arith)
-      go false e t h = absurd (eqb-false file 0 e h)
-
-  -- one test more decides where nothing is refused yet
-  more-decides : (more : Bool) → handedRefusal file whole ≡ 0 → cond more 0 7 ≡ handedRefusal file (whole && more)
-  unfolding handedRefusal
-  more-decides more h = rw (nothing-refused h .0, nothing-refused h .1)
-
-  -- it leaves the number of what is refused already
-  refused-already : (more : Bool) → (handedRefusal file whole ≡ 0 → ⊥) → handedRefusal file whole ≡ handedRefusal file (whole && more)
-  unfolding handedRefusal
-  refused-already more h = go (eqb file 0) whole h
-    where
-      go : (b t : Bool) → (cond b (cond t 0 7) file ≡ 0 → ⊥) → cond b (cond t 0 7) file ≡ cond b (cond (t && more) 0 7) file
-      go true true h = absurd (h refl)
-      go true false h = refl
-      go false t h = refl
-
--- ---- the words
-
-long : (w : List ℕ) → isSession w ≡ true → length w ≡ sessionSize
-unfolding isSession
-long w h = eqb-true (length w) sessionSize (and-left (eqb (length w) sessionSize) _ h)
-
-pub begins : (f w : List ℕ) (g : ReadAnswer) (rd : Read) (n : ℕ) → g ≡ readOf f → ReadMeets w rd → n ≡ handedRefusal (g .refusal) (rd .«is_session»)
-    → Begins f w (record { refusal = n; instrument = g .instrument; session = rd .session })
-begins f w g rd n eg m en =
-    record {
-      number = rw (← eg, ← (m .answer)) en;
-      instrument = rw eg;
-      session = λ h. m .reads (nothing-refused (g .refusal) (rd .«is_session») (sym en ∙ h) .1);
-    }
-
-module _ (o : Outcome) (w : List ℕ) (r : Report) (er : r ≡ reportOf (o .answer)) where
-  pub keeps-refused : (r .refusal ≡ 0 → ⊥) → Keeps o w r w
-  keeps-refused h = record { report = er; words = λ z. absurd (h z); stays = λ _. refl }
-
-  pub keeps-written : r .refusal ≡ 0 → (t : Bool) (w′ : List ℕ) → length w ≡ sessionSize → PutMeets (o .session) w t w′ → Keeps o w r w′
-  keeps-written h t w′ k p = record { report = er; words = λ _. p .writes (p .answer ∙ eq-eqb (length w) sessionSize k); stays = λ z. absurd (z h) }
+pub report-stays : {number : ℕ} {scratch scratch′ : List Float} {r : Report} {answer a : Answer} → r ≡ reportOf answer → ScratchStays number scratch scratch′
+    → reportOf a .refusal ≡ 0 → (number ≡ 0 → answer ≡ a) → ScratchStays (r .refusal) scratch scratch′
+report-stays er stays none accepted refused =
+    stays (λ e. refused (ap (λ (x : Report). x .refusal) er ∙ ap (λ (x : Answer). reportOf x .refusal) (accepted e) ∙ none))
 
 -- ---- a call
 
@@ -192,6 +130,20 @@ module _ (f keys : List ℕ) (weights : List Float) {g : ReadAnswer} {x : Adjust
     pub adjust-saved : n ≡ 0 → {a : WriteAnswer} {out′ : List ℕ} → WriteMeets (x .instrument) out a out′ → r ≡ writtenAs a → AdjustMeets f keys weights out r out′
     adjust-saved h {a} {out′} m er =
         meets-accepted n adjust-number h (record { answer = a; meets = subst (λ (i : Instrument). WriteMeets i out a out′) adjusted-is m; report = er })
+
+-- with no pair nothing but the file can be refused
+no-pairs : (f : List ℕ) → readOf f .refusal ≡ 0 → handedRefusal (readOf f .refusal) (wholePairs (readOf f .instrument) [] []) ≡ 0
+unfolding handedRefusal wholePairs allBelow
+no-pairs f z = rw (eq-eqb (readOf f .refusal) 0 z)
+
+-- so that the writer gets the record that was read, and gives the file back: `read-written`
+pub gives-back : (f keys : List ℕ) (weights : List Float) {out out′ : List ℕ} {r : Report} → Bytes f → AdjustMeets f keys weights out r out′ → GivesBack f keys weights out r out′
+unfolding weightedBy
+gives-back f keys weights {out} {out′} {r} ok m z none no-weights room =
+    let adjusted : AdjustMeets f [] [] out r out′ = rw (none, no-weights) at m in
+    let saved = adjusted .accepts (no-pairs f z) in
+    let same = read-written out out′ (saved .answer) (readOf f) f ok refl z (saved .meets) room in
+    (saved .report ∙ ap writtenAs (same .0), same .1)
 
 -- ---- energies in flat arrays
 

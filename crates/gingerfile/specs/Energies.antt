@@ -10,7 +10,7 @@ use Rattle.energies.specs.declared.EnergiesAnswer.{EnergiesAnswer}
 use Rattle.energies.specs.Energy.{noEnergy, EnergiesMeet}
 use Rattle.session_words.specs.Session.{sessionOf, isSession}
 use Rattle.gingerfile.specs.declared.KeyEnergies.{KeyEnergies}
-use Rattle.gingerfile.specs.Crossing.{handedRefusal}
+use Rattle.crossing.specs.Crossing.{handedRefusal}
 
 abbrev pub energyOf : KeyEnergy → Float
 energyOf k = k .energy

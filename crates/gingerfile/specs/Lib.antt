@@ -1,3 +1,2 @@
-pub mod Crossing
 pub mod Energies
 pub mod Adjust

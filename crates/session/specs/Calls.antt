@@ -1,5 +1,5 @@
--- Document 01, "The session": what each call promises, by equation: its answer, the session, and every cell of work memory, output and trace afterwards. Scratch is free. Which part
--- holds which cue is fixed: slot j in part j + 1. Definitions only: assumes nothing.
+-- Document 01, "The session": what each call promises, by equation: its answer, the session, and every cell of work memory, output and trace afterwards. Scratch is free in an accepted
+-- call; a refused one leaves it. Which part holds which cue is fixed: slot j in part j + 1. Definitions only: assumes nothing.
 use mathlib.Core.Path.{_≡_}
 use mathlib.Core.Bool.{true, false, cond}
 use mathlib.Core.List.{List, _++_, map}
@@ -58,6 +58,10 @@ refusedWith s n = record { answer = Refused n; session = s }
 abbrev pub Refuses : Session → (work : List Float) → Outcome → (work′ : List Float) → ℕ → Type 0
 Refuses s work r work′ n = (r ≡ refusedWith s n) × (work′ ≡ work)
 
+-- "If .. a lent buffer breaks a rule .., the call .. changes no record and no buffer": of scratch, before and after a call of that number. In an accepted call its cells are free
+abbrev pub ScratchStays : ℕ → (scratch scratch′ : List Float) → Type 0
+ScratchStays number scratch scratch′ = (number ≡ 0 → ⊥) → scratch′ ≡ scratch
+
 -- ---- open
 
 abbrev pub freshSession : Piano → Session
@@ -88,7 +92,7 @@ pub record Plays (i : Instrument) (s : Session) (work out trace : List Float) (r
   pub pushes : trace′
       ≡ forces i (scoreOf s) (s .t) (length out) (stateNow i s work) ++ drop (length (forces i (scoreOf s) (s .t) (length out) (stateNow i s work))) trace
 
--- of scratch the length alone: its cells are free
+-- of scratch the length alone: what stood in it decides nothing
 abbrev pub PlayMeets : Instrument → Session → (work : List Float) (scratch : ℕ) (out trace : List Float) → Outcome → (work′ out′ trace′ : List Float) → Type 0
 PlayMeets i s work scratch out trace r work′ out′ trace′ =
     Meets (playNumber i s (length work) scratch (length out) (length trace)) (λ n. (r ≡ refusedWith s n) × (work′ ≡ work) × (out′ ≡ out) × (trace′ ≡ trace))

@@ -6,9 +6,8 @@ ghost use Prim.Native.Nat.{_*_, _≤_};
 ghost use lib.ListN.{length};
 ghost use Rattle.instrument.specs.Valid.{valid};
 ghost use Rattle.instrument.specs.Work.{partCells};
-ghost use Rattle.session_cues.specs.Cues.{keptOf};
-ghost use Rattle.machine.specs.Machine.{settled};
-ghost use Rattle.session.specs.Calls.{freshSession, refusedWith, Restores, Edits, OpenMeets, PlayMeets, CueMeets, GoMeets, InsertMeets, RemoveMeets};
+ghost use Rattle.session_record.specs.Record.{playNumber, goNumber};
+ghost use Rattle.session.specs.Calls.{freshSession, refusedWith, ScratchStays, Restores, Edits, OpenMeets, PlayMeets, CueMeets, GoMeets, InsertMeets, RemoveMeets};
 use instrument::Instrument;
 use score::Event;
 use score::Piano;
@@ -91,6 +90,8 @@ pub fn play(
 ) -> Outcome
     ensures { λ r. ⌜ PlayMeets instrument session (now (work .entry)) (length (now (scratch .entry))) (now (out .entry)) (now (trace .entry))
         r (now (work .exit)) (now (out .exit)) (now (trace .exit)) ⌝ }
+    ensures { λ _. ⌜ ScratchStays (playNumber instrument session (length (now (work .entry))) (length (now (scratch .entry))) (length (now (out .entry))) (length (now (trace .entry))))
+        (now (scratch .entry)) (now (scratch .exit)) ⌝ }
 {
     let refusal = session_record::play_refusal(
         instrument,
@@ -203,6 +204,7 @@ pub fn go(
     p: u64,
 ) -> Outcome
     ensures { λ r. ⌜ GoMeets instrument session (now (work .entry)) (length (now (scratch .entry))) p r (now (work .exit)) ⌝ }
+    ensures { λ _. ⌜ ScratchStays (goNumber instrument session (length (now (work .entry))) (length (now (scratch .entry))) p) (now (scratch .entry)) (now (scratch .exit)) ⌝ }
 {
     let refusal = session_record::go_refusal(instrument, session, work.len(), scratch.len(), p);
     if refusal != 0 {
@@ -244,18 +246,6 @@ pub fn go(
     }
 }
 
-// Where t stands after an edit at q.
-fn settle(session: Session, q: u64) -> u64
-    ensures { λ r. ⌜ r ≡ settled (session .t) (keptOf (session .cues)) q ⌝ }
-{
-    if q < session.t {
-        let slots = session.cues;
-        session_cues::nearest(slots, q)
-    } else {
-        session.t
-    }
-}
-
 // An edit at q that leaves `count` events.
 fn edit(
     instrument: Instrument,
@@ -268,7 +258,7 @@ fn edit(
     requires { ⌜ (valid instrument ≡ true) × (5 * partCells instrument ≤ length (now work)) ⌝ }
     ensures { λ r. ⌜ Edits instrument session (now (work .entry)) q count events r (now (work .exit)) ⌝ }
 {
-    let t = settle(session, q);
+    let t = session_record::settle(session, q);
     let piano = restore(instrument, session, t, work);
     let slots = session.cues;
     let dropped = session_cues::count_above(slots, q);

@@ -6,7 +6,7 @@ ghost use Rattle.instrument.specs.Work.{partCells};
 ghost use Prim.Native.Nat.{_+_, _≤_};
 ghost use lib.ListN.{length};
 ghost use Rattle.machine.specs.Refusals.{scratchCells};
-ghost use Rattle.machine.specs.Machine.{startOf};
+ghost use Rattle.machine.specs.Machine.{startOf, settled};
 ghost use Rattle.session_cues.specs.Cues.{keptOf};
 ghost use Rattle.session_record.specs.Record.{soundSession, workTest, openRefusal, recordRefusal};
 ghost use Rattle.session_record.specs.Record.{playNumber, cueNumber, goNumber, insertNumber, removeNumber};
@@ -166,6 +166,18 @@ pub fn start_of(session: Session, p: u64) -> u64
         session.t
     } else {
         near
+    }
+}
+
+// Where t stands after an edit at q.
+pub fn settle(session: Session, q: u64) -> u64
+    ensures { λ r. ⌜ r ≡ settled (session .t) (keptOf (session .cues)) q ⌝ }
+{
+    if q < session.t {
+        let slots = session.cues;
+        session_cues::nearest(slots, q)
+    } else {
+        session.t
     }
 }
 

@@ -1,6 +1,7 @@
--- What refuses file or pairs is answered, and nothing is written; else what the writer promises is the promise: `adjust-saved`. Assumes nothing.
+-- What refuses file or pairs is answered, and nothing is written; else what the writer promises is the promise: `adjust-saved`. That an accepted file comes back
+-- follows from it, since every element of a slice of bytes is one: `gives-back`. Assumes nothing.
 use mathlib.Core.Path.{refl}
-use Rattle.gingerfile.proofs.Returns.{adjust-refused, adjust-saved}
+use Rattle.gingerfile.proofs.Returns.{adjust-refused, adjust-saved, gives-back}
 use borrow.Author.Needs.{needs}
 use Rattle.gingerfile.proofs.gingerfile_adjust.Statement.{statement}
 use Rattle.gingerfile.proofs.gingerfile_adjust.Tie as tie
@@ -22,9 +23,12 @@ returns c =
     let told = c .before in
     let pairs = told .before .before in
     let given = pairs .before .before in
-    let z = given .before .before .before .before .before .args in
+    let bytes = given .before .before .before .before in
+    let z = bytes .before .args in
+    let m =
     adjust-refused (z .file .now) (z .keys .now) (z .weights .now) (given .read .ensures) (pairs .set-weights .ensures) (told .before .handed-refusal .ensures) (told .if1 .taken)
-    (c .refused .ensures)
+    (c .refused .ensures) in
+    (m, gives-back (z .file .now) (z .keys .now) (z .weights .now) (λ p. bytes .shared-slice-known .given p .fits) m)
 
 write-requires : tie.Need-write-requires
 write-requires c κs = search needs
@@ -41,9 +45,12 @@ returns-2 c =
     let told = saved .before .before .before in
     let pairs = told .before .before in
     let given = pairs .before .before in
-    let z = given .before .before .before .before .before .args in
+    let bytes = given .before .before .before .before in
+    let z = bytes .before .args in
+    let m =
     adjust-saved (z .file .now) (z .keys .now) (z .weights .now) (given .read .ensures) (pairs .set-weights .ensures) (told .before .handed-refusal .ensures) (told .if1 .left)
-    (saved .write .ensures) refl
+    (saved .write .ensures) refl in
+    (m, gives-back (z .file .now) (z .keys .now) (z .weights .now) (λ p. bytes .shared-slice-known .given p .fits) m)
 
 pub gingerfile-adjust-spec : {M : Type 1} → statement M
 gingerfile-adjust-spec =

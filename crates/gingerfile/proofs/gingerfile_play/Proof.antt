@@ -1,7 +1,8 @@
--- What refuses file or words is answered, and nothing is written; else what play promises and what `keep` writes are the promise: `call-made`. Assumes nothing.
+-- What refuses file or words is answered, and nothing is written; else what play promises and what `keep` writes are the promise: `call-made`. Scratch by `report-stays`. Assumes nothing.
 use mathlib.Core.Path.{refl}
-use Rattle.gingerfile.proofs.Returns.{begun-long, call-refused, call-made}
+use Rattle.gingerfile.proofs.Returns.{begun-long, call-refused, call-made, report-stays}
 use borrow.Author.Needs.{needs}
+use Rattle.crossing.specs.Crossing.{reportOf}
 use Rattle.gingerfile.proofs.gingerfile_play.Statement.{statement}
 use Rattle.gingerfile.proofs.gingerfile_play.Tie as tie
 
@@ -17,7 +18,7 @@ same-length c = search needs
 returns : tie.Need-returns
 returns c =
     let told = c .before in
-    call-refused (told .before .begin .ensures) (told .if1 .taken) (c .refused .ensures) (refl, refl, refl)
+    (call-refused (told .before .begin .ensures) (told .if1 .taken) (c .refused .ensures) (refl, refl, refl), λ _. refl)
 
 play-requires : tie.Need-play-requires
 play-requires c κs = search needs
@@ -43,11 +44,15 @@ same-length-6 : tie.Need-same-length-6
 same-length-6 c = search needs
 
 returns-2 : tie.Need-returns-2
+unfolding reportOf
 returns-2 c =
     let kept = c .before .before in
     let called = kept .before .before .before .before .before .before .before .before .before .before in
     let told = called .before .before .before .before .before .before .before in
-    call-made (told .before .begin .ensures) (told .if1 .left) (called .play .ensures) (kept .keep .ensures)
+    let promise = called .play .ensures in (
+      call-made (told .before .begin .ensures) (told .if1 .left) (promise .0) (kept .keep .ensures),
+      report-stays (kept .keep .ensures .report) (promise .1) refl (λ e. promise .0 .accepts e .answer),
+    )
 
 pub gingerfile-play-spec : {M : Type 1} → statement M
 gingerfile-play-spec =

@@ -1,5 +1,5 @@
--- A refused go gives back what it got. Where the tests passed, which `p` holds in each need, the held state is restored, the renderer may have it, and what it gives is the promise.
-use mathlib.Core.Path.{refl, sym}
+-- A refused go gives back what it got, scratch as it was. Where the tests passed, which `p` holds in each need, the held state is restored, the renderer may have it, and what it gives is the promise.
+use mathlib.Core.Path.{refl, sym, _∙_}
 use native.Mathlib.Omega.{arith}
 use lib.Seq.{length-take-le}
 use Rattle.counting.specs.Meets.{meets-refused, meets-accepted}
@@ -15,7 +15,9 @@ refused-requires : tie.Need-refused-requires
 refused-requires c κs = search needs
 
 returns : tie.Need-returns
-returns c = meets-refused _ (c .before .before .go-refusal .ensures) (c .before .if1 .taken) (c .refused .ensures, refl)
+returns c =
+    let told = c .before in
+    (meets-refused _ (told .before .go-refusal .ensures) (told .if1 .taken) (c .refused .ensures, refl), λ _. refl)
 
 part-size-requires : tie.Need-part-size-requires
 part-size-requires c κs =
@@ -87,11 +89,13 @@ returns-2 c =
     let sized = started .before in
     let at = sized .before in
     let from = at .before .before .before .before .args in
-    let p = go-tested (from .instrument) (from .session) (from .work .now) (from .scratch .now) (from .p) _ (at .before .go-refusal .ensures) (at .if1 .left) in
-    meets-accepted _ (at .before .go-refusal .ensures) (at .if1 .left)
-    (goes (from .instrument) (from .session) (from .work .now) (from .scratch .now) (from .p) p (started .start-of .ensures .2) _ (started .start-of .ensures .0)
-    (started .start-of .ensures .1) _ _ (restored .restore .ensures) (restored .restore .kept .1 .1 .1 .0) _ (sized .part-size .ensures)
-    _ _ _ (rendered .render .ensures .state) (rendered .render .ensures .counted))
+    let p = go-tested (from .instrument) (from .session) (from .work .now) (from .scratch .now) (from .p) _ (at .before .go-refusal .ensures) (at .if1 .left) in (
+      meets-accepted _ (at .before .go-refusal .ensures) (at .if1 .left)
+          (goes (from .instrument) (from .session) (from .work .now) (from .scratch .now) (from .p) p (started .start-of .ensures .2) _ (started .start-of .ensures .0)
+          (started .start-of .ensures .1) _ _ (restored .restore .ensures) (restored .restore .kept .1 .1 .1 .0) _ (sized .part-size .ensures)
+          _ _ _ (rendered .render .ensures .state) (rendered .render .ensures .counted)),
+      λ refused. absurd (refused (sym (at .before .go-refusal .ensures) ∙ at .if1 .left)),
+    )
 
 pub go-spec : {M : Type 1} → statement M
 go-spec =

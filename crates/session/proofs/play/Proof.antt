@@ -1,5 +1,5 @@
--- A refused play gives back what it got. Where the tests passed, which `p` holds in each need, the renderer may have the first part, and what it gives is the promise.
-use mathlib.Core.Path.{refl, sym}
+-- A refused play gives back what it got, scratch as it was. Where the tests passed, which `p` holds in each need, the renderer may have the first part, and what it gives is the promise.
+use mathlib.Core.Path.{refl, sym, _∙_}
 use native.Mathlib.Omega.{arith}
 use lib.Seq.{length-take-le}
 use Rattle.counting.specs.Meets.{meets-refused, meets-accepted}
@@ -15,7 +15,9 @@ refused-requires : tie.Need-refused-requires
 refused-requires c κs = search needs
 
 returns : tie.Need-returns
-returns c = meets-refused _ (c .before .before .play-refusal .ensures) (c .before .if1 .taken) (c .refused .ensures, refl, refl, refl)
+returns c =
+    let told = c .before in
+    (meets-refused _ (told .before .play-refusal .ensures) (told .if1 .taken) (c .refused .ensures, refl, refl, refl), λ _. refl)
 
 part-size-requires : tie.Need-part-size-requires
 part-size-requires c κs =
@@ -75,10 +77,12 @@ returns-2 c =
     let sized = rendered .before .before .before .before .before .before .before .before in
     let at = sized .before in
     let from = at .before .before .before .before .before .before .args in
-    let p = play-tested (from .instrument) (from .session) (from .work .now) (from .scratch .now) (from .out .now) (from .trace .now) _ (at .before .play-refusal .ensures) (at .if1 .left) in
-    meets-accepted _ (at .before .play-refusal .ensures) (at .if1 .left)
-    (plays (from .instrument) (from .session) (from .work .now) (from .scratch .now) (from .out .now) (from .trace .now) p _ (sized .part-size .ensures) _ _ _ _ _ (rendered .render .ensures)
-    (c .contacts .ensures))
+    let p = play-tested (from .instrument) (from .session) (from .work .now) (from .scratch .now) (from .out .now) (from .trace .now) _ (at .before .play-refusal .ensures) (at .if1 .left) in (
+      meets-accepted _ (at .before .play-refusal .ensures) (at .if1 .left)
+          (plays (from .instrument) (from .session) (from .work .now) (from .scratch .now) (from .out .now) (from .trace .now) p _ (sized .part-size .ensures) _ _ _ _ _ (rendered .render .ensures)
+          (c .contacts .ensures)),
+      λ refused. absurd (refused (sym (at .before .play-refusal .ensures) ∙ at .if1 .left)),
+    )
 
 pub play-spec : {M : Type 1} → statement M
 play-spec =

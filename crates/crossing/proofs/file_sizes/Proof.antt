@@ -1,9 +1,9 @@
 -- A refused file gives its number and zeros, an accepted one its own numbers and what the calls on it ask for. Assumes nothing.
 use mathlib.Core.Path.{refl}
-use Rattle.gingerfile.proofs.Returns.{sizes-refused, sizes-given}
+use Rattle.crossing.proofs.Returns.{sizes-refused, sizes-given}
 use borrow.Author.Needs.{needs}
-use Rattle.gingerfile.proofs.gingerfile_read.Statement.{statement}
-use Rattle.gingerfile.proofs.gingerfile_read.Tie as tie
+use Rattle.crossing.proofs.file_sizes.Statement.{statement}
+use Rattle.crossing.proofs.file_sizes.Tie as tie
 
 read-requires : tie.Need-read-requires
 read-requires c κs = search needs
@@ -30,6 +30,6 @@ returns-2 c =
     sizes-given (given .before .before .args .file .now) (given .read .result) (given .read .ensures) _ _ (told .if1 .left) (c .before .work-cells .ensures .0)
     (c .scratch-cells .ensures)
 
-pub gingerfile-read-spec : {M : Type 1} → statement M
-gingerfile-read-spec =
+pub file-sizes-spec : {M : Type 1} → statement M
+file-sizes-spec =
     tie.close (tie.spec read-requires cast-t8 returns work-cells-requires scratch-cells-requires returns-2)

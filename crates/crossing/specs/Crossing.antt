@@ -17,9 +17,9 @@ use Rattle.session.specs.declared.Answer.the-variants.{Refused, Opened, Played,
 use Rattle.session.specs.declared.Outcome.{Outcome}
 use Rattle.session_words.specs.Layout.{sessionSize}
 use Rattle.session_words.specs.Session.{wordsOf, sessionOf, isSession}
-use Rattle.gingerfile.specs.declared.Begun.{Begun}
-use Rattle.gingerfile.specs.declared.Report.{Report}
-use Rattle.gingerfile.specs.declared.Sizes.{Sizes}
+use Rattle.crossing.specs.declared.Begun.{Begun}
+use Rattle.crossing.specs.declared.Report.{Report}
+use Rattle.crossing.specs.declared.Sizes.{Sizes}
 
 -- ---- answers as numbers
 

@@ -1,8 +1,8 @@
 -- The two tests are those of the definition, in its order. Assumes nothing.
 use borrow.Author.Tests.{eq-eqb, ne-eqb}
-use Rattle.gingerfile.specs.Crossing.{handedRefusal}
-use Rattle.gingerfile.proofs.handed_refusal.Statement.{statement}
-use Rattle.gingerfile.proofs.handed_refusal.Tie as tie
+use Rattle.crossing.specs.Crossing.{handedRefusal}
+use Rattle.crossing.proofs.handed_refusal.Statement.{statement}
+use Rattle.crossing.proofs.handed_refusal.Tie as tie
 
 returns : tie.Need-returns
 unfolding handedRefusal

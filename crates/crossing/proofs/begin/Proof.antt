@@ -1,8 +1,8 @@
 -- The file and the words are read; the number says which is refused: `begins`. Assumes nothing.
-use Rattle.gingerfile.proofs.Returns.{begins}
+use Rattle.crossing.proofs.Returns.{begins}
 use borrow.Author.Needs.{needs}
-use Rattle.gingerfile.proofs.begin.Statement.{statement}
-use Rattle.gingerfile.proofs.begin.Tie as tie
+use Rattle.crossing.proofs.begin.Statement.{statement}
+use Rattle.crossing.proofs.begin.Tie as tie
 
 read-requires : tie.Need-read-requires
 read-requires c κs = search needs

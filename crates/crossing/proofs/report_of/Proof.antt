@@ -1,8 +1,8 @@
 -- Each case of an answer gives its own numbers. Assumes nothing.
-use Rattle.gingerfile.specs.Crossing.{reportOf}
+use Rattle.crossing.specs.Crossing.{reportOf}
 use borrow.Author.Needs.{needs}
-use Rattle.gingerfile.proofs.report_of.Statement.{statement}
-use Rattle.gingerfile.proofs.report_of.Tie as tie
+use Rattle.crossing.proofs.report_of.Statement.{statement}
+use Rattle.crossing.proofs.report_of.Tie as tie
 
 enum-known-answer : tie.Need-enum-known-answer
 enum-known-answer c = search needs

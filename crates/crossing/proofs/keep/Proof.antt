@@ -1,8 +1,8 @@
 -- A refused call returns before it writes; else every word is written. Assumes nothing.
-use Rattle.gingerfile.proofs.Returns.{keeps-refused, keeps-written}
+use Rattle.crossing.proofs.Returns.{keeps-refused, keeps-written}
 use borrow.Author.Needs.{needs}
-use Rattle.gingerfile.proofs.keep.Statement.{statement}
-use Rattle.gingerfile.proofs.keep.Tie as tie
+use Rattle.crossing.proofs.keep.Statement.{statement}
+use Rattle.crossing.proofs.keep.Tie as tie
 
 report-of-requires : tie.Need-report-of-requires
 report-of-requires c κs = search needs

@@ -1,8 +1,8 @@
 -- By the test whether t lies past q.
 use borrow.Author.Tests.{lt-ltb, le-ltb}
 use borrow.Author.Needs.{needs}
-use Rattle.session.proofs.settle.Statement.{statement}
-use Rattle.session.proofs.settle.Tie as tie
+use Rattle.session_record.proofs.settle.Statement.{statement}
+use Rattle.session_record.proofs.settle.Tie as tie
 
 nearest-requires : tie.Need-nearest-requires
 nearest-requires c κs = search needs
