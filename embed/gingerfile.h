@@ -2,7 +2,8 @@
    a pointer and a length in elements. Slices of one call must not overlap. Nothing is kept between calls: the host owns the
    instrument's file, the session's words and the work memory, and hands them to every call.
 
-   Every call answers a refusal's number, 0 for none. A refused call changes nothing, and the other numbers of its answer are 0.
+   Every call answers a refusal's number, 0 for none. A refused call changes nothing, scratch neither, and the other numbers of
+   its answer are 0. An accepted play or go leaves in scratch what it likes.
    docs/EMBEDDING.md is the page for hosts.
 
    A host sees to three things.
@@ -48,7 +49,11 @@ extern "C" {
 #endif
 
 /* A session's words, one a number: the position t, the number of events, 64 events, four cues, the piano now. A host may
-   read them and keep copies of them. Words of another number than 616, or that are no session's, are refused as 7.
+   read them, keep copies of them and make its own. Words of another number than 616, or that are no session's, are refused as 7.
+
+   Flags are 0 or 1. Any NaN is read as NaN, whatever its bits. These may hold anything: events past the number of events, a cue
+   that is not kept, the words of a hammer that does not fly, the velocity of an event that is not a strike, and what is said
+   of counts below. An accepted call writes all words, so these then hold what the library puts there.
 
    616 zeros are a session: at position 0, with no events and no cues. So words that no call has written may pass, and the work
    memory is then taken as the strings' state, whatever it holds; gingerfile_open writes both. */
