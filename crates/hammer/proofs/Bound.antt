@@ -120,7 +120,8 @@ module _ (hammer : Hammer) (eps-r c0 c1 : Float) where
             (zero-least force (finite-nonneg force (w .0)), order-trans force top t (finite-nonneg force (w .0)) nd nt (w .1) d)
       ]
 
-  -- the same for every c0: from 0 to the positive part of top
+  -- the same, and c0 may be at most 0: from 0 to the positive part of top. A NaN c0 is excluded: its top is NaN, which is
+  -- not at most halfMax
   pub force-part : T (positive c1) → T (le top halfMax) → T (nonneg force) × T (le force (positivePart top))
   force-part q l = elim (divided c0 c1 q (at-most top l)) [
     | inl z ↦
