@@ -1,17 +1,26 @@
 // Replays renders of the Rust that `compare/render` stored, with no Rust at hand: instruments, scores and blocks are
 // read, rendered by the proved renderer, and each block's samples, forces and state held to the Rust's.
 mod block;
+mod state;
 
-use block::Judged;
-use block::Standing;
+use block::CELLS;
+use block::Render;
 use block::Verdict;
+use block::WORDS;
 use libc::STDIN_FILENO;
 use libc::STDOUT_FILENO;
+use little_endian::float_of;
+use little_endian::part;
+use little_endian::put_u64;
+use score::Event;
+use score::Score;
+use score::TimedEvent;
 use std::num::wrapping_add_u64;
 use std::num::wrapping_add_usize;
 use test_answers::Words;
 use test_answers::rest;
 use test_answers::starts;
+use text::lines::row;
 
 // What the tally counts, by its place.
 const RENDERS: usize = 0;
@@ -32,56 +41,78 @@ fn add(tally: &mut [u64; 6], at: usize, n: u64) {
     }
 }
 
-// Byte i of a file that stands in words, the lowest byte first, behind the word of its length; 0 past the words.
-fn file_byte(words: &[u64], i: usize) -> u8 {
-    let w = i / 8 + 1;
-    if w < words.len() {
-        let shift = (i % 8) as u32 * 8;
-        ((words[w] >> shift) % 256) as u8
-    } else {
-        0
+// The bytes of a file that stands in words, eight to a word, after the word of its length.
+fn unpack_file(words: &[u64; WORDS], file: &mut [u8; 2304]) {
+    for i in 1usize..WORDS {
+        put_u64(file, 8 * i - 8, words[i]);
     }
 }
 
-// The file's bytes, as far as they fit; how many it has.
-fn unpack_file(words: &[u64], file: &mut [u8]) -> usize {
-    for i in 0..file.len() {
-        file[i] = file_byte(words, i);
+// Silence on the instrument of a file's first n bytes, with no events.
+fn silence(file: &[u8; 2304], n: usize) -> Render {
+    let answer = instrument_file::read(part(file, 0, n));
+    let instrument = answer.instrument;
+    let none = TimedEvent {
+        position: 0,
+        event: Event::Pedal(false),
+    };
+    let score = Score {
+        events: [none; 64],
+        count: 0,
+    };
+    let piano = render::silent_piano();
+    Render {
+        instrument,
+        score,
+        piano,
+        t: 0,
     }
-    if words.len() == 0 {
-        return 0;
-    }
-    let n = words[0];
-    if n < 2304 { n as usize } else { 2304 }
 }
 
-fn fill(cells: &mut [f64], x: f64) {
-    for i in 0..cells.len() {
-        cells[i] = x;
-    }
+// A new render.
+fn start(words: &[u64; WORDS], cells: &mut [f64; CELLS]) -> Render {
+    let mut file = [0u8; 2304];
+    unpack_file(words, &mut file);
+    render::silence_part(cells);
+    silence(&file, words[0] as usize)
 }
 
-// An event's four words behind those that stand.
-fn keep_event(words: &[u64], events: &mut [u64], n: usize) -> bool {
-    if words.len() != 4 {
-        return false;
+// Kinds: 0 a strike, 1 a release, 2 the pedal, whose key is 1 for down, and any other a hand damp.
+fn event_of(kind: u64, key: u64, velocity: f64) -> Event {
+    let number = (key % 256) as u8;
+    if kind == 0 {
+        return Event::NoteOn {
+            key: number,
+            velocity,
+        };
     }
-    if 63 < n {
-        return false;
+    if kind == 1 {
+        return Event::NoteOff { key: number };
     }
-    let at = 4 * n;
-    if events.len() < at + 4 {
-        return false;
+    if kind == 2 {
+        return Event::Pedal(key == 1);
     }
-    events[at] = words[0];
-    events[at + 1] = words[1];
-    events[at + 2] = words[2];
-    events[at + 3] = words[3];
-    true
+    Event::HandDamp { key: number }
 }
 
-fn count_block(tally: &mut [u64; 6], j: Judged) -> Standing {
-    let verdict = j.verdict;
+// One event more: position, kind, key and velocity. A score of more than 64 is not rendered.
+fn with_event(words: &[u64; WORDS], render: Render) -> Render {
+    let mut score = render.score;
+    let n = score.count;
+    if n < 64 {
+        let event = event_of(words[1], words[2], float_of(words[3]));
+        score.events[n] = TimedEvent {
+            position: words[0],
+            event,
+        };
+    }
+    score.count = wrapping_add_usize(n, 1);
+    let mut next = render;
+    next.score = score;
+    next
+}
+
+fn count_block(tally: &mut [u64; 6], verdict: Verdict) {
     match verdict {
         Verdict::Unreadable => {
             add(tally, UNREADABLE, 1);
@@ -94,151 +125,113 @@ fn count_block(tally: &mut [u64; 6], j: Judged) -> Standing {
             add(tally, DIFFERING, 1);
         }
     }
-    add(tally, SAMPLES, j.samples);
-    add(tally, FORCES, j.forces);
-    j.standing
-}
-
-// A new render: its file, silence, no events.
-fn start(tally: &mut [u64; 6], words: &[u64], file: &mut [u8], part: &mut [f64]) -> Standing {
-    let n = unpack_file(words, file);
-    fill(part, 0.0);
-    add(tally, RENDERS, 1);
-    block::silence(n)
-}
-
-fn with_event(
-    tally: &mut [u64; 6],
-    words: &[u64],
-    events: &mut [u64],
-    standing: Standing,
-) -> Standing {
-    let n = standing.event_count;
-    let small = standing.small;
-    if keep_event(words, events, n) {
-        Standing {
-            file_length: standing.file_length,
-            event_count: wrapping_add_usize(n, 1),
-            small,
-            t: standing.t,
-        }
-    } else {
-        add(tally, UNREADABLE, 1);
-        standing
-    }
 }
 
 fn with_block(
     tally: &mut [u64; 6],
-    words: &[u64],
-    file: &[u8],
-    events: &[u64],
-    part: &mut [f64],
-    standing: Standing,
+    words: &[u64; WORDS],
+    n: usize,
+    cells: &mut [f64; CELLS],
+    render: Render,
     digested: bool,
-) -> Standing {
-    let n = standing.file_length;
-    let count = standing.event_count;
-    if file.len() < n {
-        return standing;
-    }
-    if 64 < count {
-        return standing;
-    }
-    let end = 4 * count;
-    if events.len() < end {
-        return standing;
-    }
-    count_block(
-        tally,
-        block::judge(&file[..n], &events[..end], part, standing, words, digested),
-    )
+) -> Render {
+    let judged = block::judge(cells, render, words, n, digested);
+    let verdict = judged.verdict;
+    count_block(tally, verdict);
+    add(tally, SAMPLES, judged.samples);
+    add(tally, FORCES, judged.forces);
+    let piano = judged.piano;
+    let mut next = render;
+    next.piano = piano;
+    next.t = wrapping_add_u64(render.t, judged.samples);
+    next
 }
 
-// One line, whose words are read.
-fn replay_words(
-    tally: &mut [u64; 6],
-    line: &[u8],
-    words: &[u64],
-    file: &mut [u8],
-    events: &mut [u64],
-    part: &mut [f64],
-    standing: Standing,
-) -> Standing {
+// What a line of n words tells of.
+enum Kind {
+    Instrument,
+    Event,
+    Block,
+    Run,
+    Unreadable,
+}
+
+fn kind_of(line: &[u8], n: usize) -> Kind {
+    if n == 0 {
+        return Kind::Unreadable;
+    }
     if starts(line, b"instrument ") {
-        start(tally, words, file, part)
-    } else if starts(line, b"event ") {
-        with_event(tally, words, events, standing)
-    } else if starts(line, b"block ") {
-        with_block(tally, words, file, events, part, standing, false)
-    } else if starts(line, b"run ") {
-        with_block(tally, words, file, events, part, standing, true)
-    } else {
-        add(tally, UNREADABLE, 1);
-        standing
+        return Kind::Instrument;
+    }
+    if (n == 4) & starts(line, b"event ") {
+        return Kind::Event;
+    }
+    if starts(line, b"block ") {
+        return Kind::Block;
+    }
+    if starts(line, b"run ") {
+        return Kind::Run;
+    }
+    Kind::Unreadable
+}
+
+// The words of a line, into the first places; none where it cannot be read.
+fn read_line(line: &[u8], words: &mut [u64; WORDS]) -> usize {
+    match test_answers::read_words(rest(line), words) {
+        Words::Count(n) => n,
+        Words::Unreadable => 0,
     }
 }
 
 fn replay_line(
     tally: &mut [u64; 6],
     line: &[u8],
-    file: &mut [u8],
-    events: &mut [u64],
-    part: &mut [f64],
-    standing: Standing,
-) -> Standing {
-    let mut words = [0u64; 1024];
-    match test_answers::read_words(rest(line), &mut words) {
-        Words::Count(n) => if n <= words.len() {
-            replay_words(tally, line, &words[..n], file, events, part, standing)
-        } else {
-            standing
-        },
-        Words::Unreadable => {
+    cells: &mut [f64; CELLS],
+    render: Render,
+) -> Render {
+    let mut words = [0u64; WORDS];
+    let n = read_line(line, &mut words);
+    match kind_of(line, n) {
+        Kind::Instrument => {
+            add(tally, RENDERS, 1);
+            start(&words, cells)
+        }
+        Kind::Event => with_event(&words, render),
+        Kind::Block => with_block(tally, &words, n, cells, render, false),
+        Kind::Run => with_block(tally, &words, n, cells, render, true),
+        Kind::Unreadable => {
             add(tally, UNREADABLE, 1);
-            standing
+            render
         }
     }
 }
 
-fn replay_lines(tally: &mut [u64; 6], text: &[u8], part: &mut [f64]) {
-    let mut file = [0u8; 2304];
-    let mut events = [0u64; 256];
-    let mut standing = block::silence(0);
+fn replay_lines(tally: &mut [u64; 6], text: &[u8], cells: &mut [f64; CELLS]) {
+    let mut render = silence(&[0u8; 2304], 0);
     let mut at: usize = 0;
     while at < text.len() {
         let end = test_answers::line_end(text, at);
-        let next = replay_line(
-            tally,
-            &text[at..end],
-            &mut file,
-            &mut events,
-            part,
-            standing,
-        );
-        standing = next;
+        let next = replay_line(tally, &text[at..end], cells, render);
+        render = next;
         at = end + 1;
     }
 }
 
-fn print_count(n: u64, name: &[u8]) {
-    io::print_decimal(STDOUT_FILENO, n);
-    io::write_all(STDOUT_FILENO, name);
-}
-
+// The tally, a name to each count.
 fn report(tally: &[u64; 6]) {
-    print_count(tally[RENDERS], b" renders\n");
-    print_count(tally[BLOCKS], b" blocks with their states\n");
-    print_count(tally[SAMPLES], b" samples\n");
-    print_count(tally[FORCES], b" forces\n");
-    print_count(tally[DIFFERING], b" blocks differ\n");
-    print_count(tally[UNREADABLE], b" lines unreadable\n");
+    let names =
+        b" renders\n blocks with their states\n samples\n forces\n blocks differ\n lines unreadable";
+    for i in 0usize..6usize {
+        io::print_decimal(STDOUT_FILENO, tally[i]);
+        io::write_all(STDOUT_FILENO, row(names, i as u64));
+        io::write_all(STDOUT_FILENO, b"\n");
+    }
 }
 
 fn replay(text: &[u8]) {
     let mut tally = [0u64; 6];
-    let mut part = [0.0; 132384];
-    replay_lines(&mut tally, text, &mut part);
+    let mut cells = [0.0; CELLS];
+    replay_lines(&mut tally, text, &mut cells);
     report(&tally);
 }
 

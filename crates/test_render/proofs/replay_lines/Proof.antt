@@ -1,16 +1,16 @@
 -- Safe and ending: each turn leaves fewer bytes. Assumes nothing.
-use mathlib.Core.Path.{_≡_}
 use Prim.Native.Nat.{_-_}
+use native.Mathlib.Omega.{arith}
 use lib.ListN.{length}
 use borrow.Author.Needs.{needs}
 use Rattle.test_render.proofs.replay_lines.Statement.{statement}
 use Rattle.test_render.proofs.replay_lines.Tie as tie
 
 abbrev Inv-loop : tie.InvT-loop
-Inv-loop tally₀ text part₀ file₀ events₀ standing₀ at₀ tally part file events standing at = (length part ≡ length part₀) × (length file ≡ 2304) × (length events ≡ 256)
+Inv-loop tally₀ text cells₀ render₀ at₀ tally cells render at = Unit
 
 abbrev μ-loop : tie.MeasureT-loop
-μ-loop tally₀ text part₀ file₀ events₀ standing₀ at₀ tally part file events standing at = length text - at
+μ-loop tally₀ text cells₀ render₀ at₀ tally cells render at = length text - at
 
 silence-requires : tie.Need-silence-requires Inv-loop μ-loop
 silence-requires c κs = search needs
@@ -30,26 +30,20 @@ part-replay-line-start c = search needs
 part-replay-line-end : tie.Need-part-replay-line-end Inv-loop μ-loop
 part-replay-line-end c = search needs
 
-slice-aggregate-replay-line : tie.Need-slice-aggregate-replay-line Inv-loop μ-loop
-slice-aggregate-replay-line c = search needs
-
-slice-aggregate-replay-line-2 : tie.Need-slice-aggregate-replay-line-2 Inv-loop μ-loop
-slice-aggregate-replay-line-2 c = search needs
-
 replay-line-requires : tie.Need-replay-line-requires Inv-loop μ-loop
 replay-line-requires c κs = search needs
 
 add-at : tie.Need-add-at Inv-loop μ-loop
-add-at c = search needs
+add-at c =
+    let ended = c .before .before .before .before in
+    let start = ended .before .before .before .before .before .before in
+    omega (arith, ended .line-end .ensures .1, start .good .1 .0)
 
 loop-less : tie.Need-loop-less Inv-loop μ-loop
 loop-less c = search needs
 
 loop-again : tie.Need-loop-again Inv-loop μ-loop
 loop-again c = search needs
-
-same-length : tie.Need-same-length Inv-loop μ-loop
-same-length c = search needs
 
 returns : tie.Need-returns Inv-loop μ-loop
 returns c = search needs
@@ -66,11 +60,8 @@ replay-lines-spec =
     sub-replay-line
     part-replay-line-start
     part-replay-line-end
-    slice-aggregate-replay-line
-    slice-aggregate-replay-line-2
     replay-line-requires
     add-at
     loop-less
     loop-again
-    same-length
     returns)

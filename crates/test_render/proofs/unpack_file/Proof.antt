@@ -1,25 +1,32 @@
--- Safe and ending: each turn leaves fewer bytes. Assumes nothing.
-use mathlib.Core.Path.{_≡_}
+-- Safe and ending: each turn leaves fewer words. Assumes nothing.
 use Prim.Native.Nat.{_≤_, _-_}
-use lib.ListN.{length}
 use borrow.Author.Needs.{needs}
 use Rattle.test_render.proofs.unpack_file.Statement.{statement}
 use Rattle.test_render.proofs.unpack_file.Tie as tie
 
 abbrev Inv-loop : tie.InvT-loop
-Inv-loop words file₀ i₀ i-end file i = (length file ≡ length file₀) × (i-end ≡ length file₀) × (i ≤ i-end)
+Inv-loop words file₀ i₀ file i = (1 ≤ i) × (i ≤ 1024)
 
 abbrev μ-loop : tie.MeasureT-loop
-μ-loop words file₀ i₀ i-end file i = i-end - i
+μ-loop words file₀ i₀ file i = 1024 - i
 
 loop-holds : tie.Need-loop-holds Inv-loop μ-loop
 loop-holds c = search needs
 
-file-byte-requires : tie.Need-file-byte-requires Inv-loop μ-loop
-file-byte-requires c κs = search needs
+mul-put-u64 : tie.Need-mul-put-u64 Inv-loop μ-loop
+mul-put-u64 c = search needs
 
-slice-write-file : tie.Need-slice-write-file Inv-loop μ-loop
-slice-write-file c = search needs
+sub-put-u64 : tie.Need-sub-put-u64 Inv-loop μ-loop
+sub-put-u64 c = search needs
+
+mul-put-u64-2 : tie.Need-mul-put-u64-2 Inv-loop μ-loop
+mul-put-u64-2 c = search needs
+
+element-copy-out-put-u64 : tie.Need-element-copy-out-put-u64 Inv-loop μ-loop
+element-copy-out-put-u64 c = search needs
+
+put-u64-requires : tie.Need-put-u64-requires Inv-loop μ-loop
+put-u64-requires c κs = search needs
 
 add-i : tie.Need-add-i Inv-loop μ-loop
 add-i c = search needs
@@ -30,26 +37,8 @@ loop-less c = search needs
 loop-again : tie.Need-loop-again Inv-loop μ-loop
 loop-again c = search needs
 
-same-length : tie.Need-same-length Inv-loop μ-loop
-same-length c = search needs
-
 returns : tie.Need-returns Inv-loop μ-loop
 returns c = search needs
-
-shared-slice-read-n : tie.Need-shared-slice-read-n Inv-loop μ-loop
-shared-slice-read-n c = search needs
-
-same-length-2 : tie.Need-same-length-2 Inv-loop μ-loop
-same-length-2 c = search needs
-
-returns-2 : tie.Need-returns-2 Inv-loop μ-loop
-returns-2 c = search needs
-
-same-length-3 : tie.Need-same-length-3 Inv-loop μ-loop
-same-length-3 c = search needs
-
-returns-3 : tie.Need-returns-3 Inv-loop μ-loop
-returns-3 c = search needs
 
 pub unpack-file-spec : {M : Type 1} → statement M
 unpack-file-spec =
@@ -58,15 +47,12 @@ unpack-file-spec =
     Inv-loop
     μ-loop
     loop-holds
-    file-byte-requires
-    slice-write-file
+    mul-put-u64
+    sub-put-u64
+    mul-put-u64-2
+    element-copy-out-put-u64
+    put-u64-requires
     add-i
     loop-less
     loop-again
-    same-length
-    returns
-    shared-slice-read-n
-    same-length-2
-    returns-2
-    same-length-3
-    returns-3)
+    returns)

@@ -1,8 +1,8 @@
 -- Safe and ending: each turn leaves fewer keys. Assumes nothing.
 use Prim.Native.Nat.{_≤_, _-_}
 use borrow.Author.Needs.{needs}
-use Rattle.test_render.proofs.block.mask.Statement.{statement}
-use Rattle.test_render.proofs.block.mask.Tie as tie
+use Rattle.test_render.proofs.state.mask.Statement.{statement}
+use Rattle.test_render.proofs.state.mask.Tie as tie
 
 abbrev Inv-loop : tie.InvT-loop
 Inv-loop flags bits₀ i₀ bits i = i ≤ 16
@@ -13,8 +13,11 @@ abbrev μ-loop : tie.MeasureT-loop
 loop-holds : tie.Need-loop-holds Inv-loop μ-loop
 loop-holds c = search needs
 
-element-copy-out-if1 : tie.Need-element-copy-out-if1 Inv-loop μ-loop
-element-copy-out-if1 c = search needs
+element-copy-out-bit-of : tie.Need-element-copy-out-bit-of Inv-loop μ-loop
+element-copy-out-bit-of c = search needs
+
+bit-of-requires : tie.Need-bit-of-requires Inv-loop μ-loop
+bit-of-requires c κs = search needs
 
 add-i : tie.Need-add-i Inv-loop μ-loop
 add-i c = search needs
@@ -31,4 +34,13 @@ returns c = search needs
 pub mask-spec : {M : Type 1} → statement M
 mask-spec =
     tie.close
-    (tie.spec Inv-loop μ-loop loop-holds element-copy-out-if1 add-i loop-less loop-again returns)
+    (tie.spec
+    Inv-loop
+    μ-loop
+    loop-holds
+    element-copy-out-bit-of
+    bit-of-requires
+    add-i
+    loop-less
+    loop-again
+    returns)

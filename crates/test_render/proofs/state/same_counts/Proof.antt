@@ -3,8 +3,8 @@ use mathlib.Core.Path.{_≡_}
 use Prim.Native.Nat.{_≤_, _-_}
 use lib.ListN.{length}
 use borrow.Author.Needs.{needs}
-use Rattle.test_render.proofs.block.same_counts.Statement.{statement}
-use Rattle.test_render.proofs.block.same_counts.Tie as tie
+use Rattle.test_render.proofs.state.same_counts.Statement.{statement}
+use Rattle.test_render.proofs.state.same_counts.Tie as tie
 
 abbrev Inv-loop : tie.InvT-loop
 Inv-loop counts sum words same₀ left₀ i₀ same left i = (i ≤ 16) × (length words ≡ 16)
