@@ -4,8 +4,9 @@
 mod grand;
 mod measure;
 
-use comparison::exports::{reads, writes, Crossing, Record};
+use comparison::exports::{reads, writes};
 use comparison::instrument::read;
+use comparison::record::Record;
 use measure::{measure, report, Measured};
 use std::hint::black_box;
 use std::process::exit;
@@ -34,7 +35,7 @@ fn reading(file: &[u8]) -> Measured {
 /// Both sides start from their own record of the file, and must give it back.
 fn writing(file: &[u8]) -> Measured {
     let instrument = read(file).expect("accepted");
-    let record = Crossing::of(&Record::read(file).1);
+    let record = Record::read(file).1.crossing();
     let mut bytes = vec![0; file.len()];
     let rust = |_: &mut Vec<u8>| {
         for _ in 0..TIMES {

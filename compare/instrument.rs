@@ -5,9 +5,9 @@
 mod writer;
 
 use comparison::design::LoopDesign;
-use comparison::exports::Record;
 use comparison::instrument::{chained, read, Common, Instrument, Key, COMMON_RANGES, KEY_RANGES, STRING_RANGES};
 use comparison::power::felt_words;
+use comparison::record::Record;
 use std::collections::BTreeMap;
 use std::process::exit;
 use writer::{answer, file_of, Writings};

@@ -2,8 +2,8 @@
 //! refusal's number, the length, every lent byte and those around them.
 
 use super::{any_record, instrument_of, is_given, put, record, set_to_anything, Rng};
-use comparison::exports::Record;
 use comparison::instrument::{COMMON_RANGES, KEY_RANGES, STRING_RANGES};
+use comparison::record::Record;
 use std::collections::BTreeMap;
 use std::process::exit;
 

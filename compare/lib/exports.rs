@@ -1,14 +1,7 @@
 //! The proved functions under the names that the library `exports` gives them, for the comparisons and the benches.
 
 use crate::design::LoopDesign;
-
-/// A record laid flat: whole numbers (how many keys and strings, the exponent, three a key, two a string, W, 5W) and
-/// floats (nine common ones, four a key, five a string), unused places too.
-#[derive(Clone)]
-pub struct Record {
-    pub numbers: [u64; 117],
-    pub floats: [f64; 233],
-}
+use crate::record::{Crossing, Reading, Record};
 
 /// What a session's calls are made in.
 pub struct Lent<'a> {
@@ -18,102 +11,16 @@ pub struct Lent<'a> {
     pub trace: &'a mut [f64],
 }
 
-// ---- the record as it crosses
-
+/// What the proved writer answers: the refusal's number, 0 for none; the file's length.
 #[repr(C)]
-#[derive(Clone, Copy)]
-struct KeyRow {
-    key: u8,
-    has_damper: bool,
-    strings: usize,
-    floats: [f64; 4],
-}
-
-#[repr(C)]
-#[derive(Clone, Copy)]
-struct StringRow {
-    n: usize,
-    ap_count: usize,
-    floats: [f64; 5],
-}
-
-/// A record as it crosses.
-#[repr(C)]
-#[derive(Clone, Copy)]
-pub struct Crossing {
-    floats: [f64; 9],
-    exponent: u32,
-    key_count: usize,
-    string_count: usize,
-    keys: [KeyRow; 16],
-    strings: [StringRow; 32],
-}
-
-#[repr(C)]
-struct Reading {
-    refusal: u32,
-    record: Crossing,
-    part_cells: usize,
-    work_cells: usize,
-}
-
-#[repr(C)]
-struct Writing {
+struct WriteAnswer {
     refusal: u32,
     length: usize,
 }
 
-fn floats_at<const N: usize>(record: &Record, at: usize) -> [f64; N] {
-    record.floats[at..at + N].try_into().unwrap()
-}
-
-impl Crossing {
-    pub fn of(record: &Record) -> Crossing {
-        let number = |i: usize| record.numbers[i] as usize;
-        Crossing {
-            floats: floats_at(record, 0),
-            exponent: record.numbers[2] as u32,
-            key_count: number(0),
-            string_count: number(1),
-            keys: std::array::from_fn(|i| KeyRow {
-                key: record.numbers[3 + 3 * i] as u8,
-                has_damper: record.numbers[4 + 3 * i] == 1,
-                strings: number(5 + 3 * i),
-                floats: floats_at(record, 9 + 4 * i),
-            }),
-            strings: std::array::from_fn(|j| StringRow {
-                n: number(51 + 2 * j),
-                ap_count: number(52 + 2 * j),
-                floats: floats_at(record, 73 + 5 * j),
-            }),
-        }
-    }
-}
-
-impl Reading {
-    fn record(&self) -> Record {
-        let Crossing { floats, exponent, key_count, string_count, keys, strings } = &self.record;
-        let mut record = Record::ZEROS;
-        let mut numbers = vec![*key_count as u64, *string_count as u64, *exponent as u64];
-        let mut all = floats.to_vec();
-        for row in keys {
-            numbers.extend([row.key as u64, row.has_damper as u64, row.strings as u64]);
-            all.extend(row.floats);
-        }
-        for row in strings {
-            numbers.extend([row.n as u64, row.ap_count as u64]);
-            all.extend(row.floats);
-        }
-        numbers.extend([self.part_cells as u64, self.work_cells as u64]);
-        record.numbers.copy_from_slice(&numbers);
-        record.floats.copy_from_slice(&all);
-        record
-    }
-}
+// ---- the instrument's record
 
 impl Record {
-    pub const ZEROS: Record = Record { numbers: [0; 117], floats: [0.0; 233] };
-
     /// What the proved reader gives of a file: the refusal's number, 0 for none, and the record.
     pub fn read(file: &[u8]) -> (u32, Record) {
         let reading = call!(instrument_read, [file], []);
@@ -122,12 +29,12 @@ impl Record {
 
     /// Refusal 7's test: whether some file gives the record.
     pub fn is_given(&self) -> bool {
-        instrument_test(Crossing::of(self))
+        instrument_test(self.crossing())
     }
 
     /// What the proved writer answers: the refusal's number, 0 for none, and the length of the file that it has written.
     pub fn write(&self, bytes: &mut [u8]) -> (u32, usize) {
-        writes(&Crossing::of(self), bytes)
+        writes(&self.crossing(), bytes)
     }
 }
 
@@ -139,7 +46,7 @@ pub fn reads(file: &[u8]) -> u32 {
 /// The writing alone.
 pub fn writes(record: &Crossing, bytes: &mut [u8]) -> (u32, usize) {
     // SAFETY: as `call!` says; the record stands ahead of the slice.
-    let Writing { refusal, length } = unsafe { instrument_write(*record, bytes.as_mut_ptr(), bytes.len()) };
+    let WriteAnswer { refusal, length } = unsafe { instrument_write(*record, bytes.as_mut_ptr(), bytes.len()) };
     (refusal, length)
 }
 
@@ -161,7 +68,7 @@ unsafe extern "C" {
     /// How the force was found: 0 there is none, 1 by the first guess, 2 by the second, 3 by neither.
     pub safe fn leaf_force_trials(stiffness: f64, exponent: u32, eps_r: f64, c0: f64, c1: f64) -> u32;
     pub safe fn leaf_cut_string(n: usize, phi: f64, strike_ratio: f64, damper_ratio: f64, lengths: &mut [usize; 3]);
-    safe fn instrument_test(record: Crossing) -> bool;
+    safe fn instrument_test(instrument: Crossing) -> bool;
 }
 
 // A slice crosses as its pointer and its length.
@@ -177,7 +84,7 @@ extern "C" {
     fn leaf_force_sweep(c0: *mut f64, count: usize, stiffness: f64, exponent: u32, eps_r: f64, c1: f64);
     fn leaf_row_run(cells: *mut f64, cell_count: usize, block: *mut f64, block_count: usize, a: f64);
     fn instrument_read(file: *const u8, file_length: usize) -> Reading;
-    fn instrument_write(record: Crossing, bytes: *mut u8, bytes_length: usize) -> Writing;
+    fn instrument_write(instrument: Crossing, bytes: *mut u8, bytes_length: usize) -> WriteAnswer;
     fn session_plays(
         file: *const u8, file_length: usize, words: *const u64, words_length: usize,
         work: *mut f64, work_length: usize, scratch: *mut f64, scratch_length: usize,

@@ -14,6 +14,7 @@ pub mod felts;
 pub mod instrument;
 pub mod instruments;
 pub mod power;
+pub mod record;
 pub mod waves;
 
 /// The Rust that is compared with; compare/patch.rs says what is changed.

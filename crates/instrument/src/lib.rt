@@ -16,6 +16,7 @@ ghost use Rattle.instrument.specs.KeyIndex.{keyIndex};
 ghost use Rattle.instrument.specs.Work.{countedCells, countedPart};
 
 // The keys in the file's order, and their strings, key after key: key k's stand after those of the keys before it. Places past the counts hold zeros.
+#[repr(C)]
 pub struct Instrument {
     pub common: Common,
     pub key_count: usize,

@@ -10,11 +10,13 @@ ghost use Rattle.instrument_fields.specs.Fields.{hammerOf, commonOf, key
 ghost use Rattle.instrument_fields.specs.Ranges.{within, strictlyBetween, exponentInRange, hammerInRange, commonInRange, keyInRange, stringInRange};
 ghost use Rattle.instrument_fields.specs.Unused.{isPlusZero, noHammer, noCommon, noKey, noString, isNoKey, isNoString};
 
+#[repr(C)]
 pub struct Damper {
     pub rho: f64,
     pub ramp_s: f64,
 }
 
+#[repr(C)]
 pub struct Common {
     pub fs: f64,
     pub z: f64,
@@ -24,6 +26,7 @@ pub struct Common {
 }
 
 // A key; `strings` is how many strings it has.
+#[repr(C)]
 pub struct KeyDesign {
     pub key: u8,
     pub has_damper: bool,
@@ -35,6 +38,7 @@ pub struct KeyDesign {
 }
 
 // A string's loop; `phi` stands for the delay of its filters.
+#[repr(C)]
 pub struct LoopDesign {
     pub n: usize,
     pub ap_count: usize,

@@ -26,6 +26,7 @@ ghost use Rattle.instrument_writer.specs.Write.{WriteMeets};
 pub const LONGEST_FILE: usize = 2200;
 
 // The refusal's number, 0 for none; how many bytes the file has, 0 where it is refused.
+#[repr(C)]
 pub struct WriteAnswer {
     pub refusal: u32,
     pub length: usize,
