@@ -8,40 +8,10 @@ use session_record::Session;
 use test_answers::digest;
 use text::lines::row;
 
-// The memory that calls are lent, each part by its digest.
-struct Memory {
-    work: u64,
-    scratch: u64,
-    out: u64,
-    trace: u64,
-}
-
-fn memory_of(work: &[f64], scratch: &[f64], out: &[f64; 4], trace: &[f64; 4]) -> Memory {
-    Memory {
-        work: digest(work),
-        scratch: digest(scratch),
-        out: digest(out),
-        trace: digest(trace),
-    }
-}
-
 fn say_changed(before: u64, after: u64, what: &[u8]) {
     if before != after {
         io::write_all(STDOUT_FILENO, what);
     }
-}
-
-// A refused call leaves every cell.
-fn say_call(name: &[u8], number: u64, before: Memory, after: Memory) {
-    io::write_all(STDOUT_FILENO, name);
-    io::print_decimal(STDOUT_FILENO, number);
-    if number == 0 {
-        return;
-    }
-    say_changed(before.work, after.work, b" (changed)");
-    say_changed(before.scratch, after.scratch, b" (scratch changed)");
-    say_changed(before.out, after.out, b" (output changed)");
-    say_changed(before.trace, after.trace, b" (trace changed)");
 }
 
 fn number_of(answer: Answer) -> u64 {
@@ -51,17 +21,23 @@ fn number_of(answer: Answer) -> u64 {
     }
 }
 
-fn play(
-    instrument: Instrument,
-    session: Session,
-    work: &mut [f64],
-    scratch: &mut [f64],
-    out: &mut [f64; 4],
-    trace: &mut [f64; 4],
-) -> u64 {
-    let done = session::play(instrument, session, work, scratch, out, trace);
+// A refused call leaves every cell of output and trace too.
+fn say_played(number: u64, out: &[f64; 4], trace: &[f64; 4]) {
+    if number != 0 {
+        let untouched = digest(&[0.5; 4]);
+        say_changed(untouched, digest(out), b"(output changed) ");
+        say_changed(untouched, digest(trace), b"(trace changed) ");
+    }
+}
+
+fn play(instrument: Instrument, session: Session, work: &mut [f64], scratch: &mut [f64]) -> u64 {
+    let mut out = [0.5; 4];
+    let mut trace = [0.5; 4];
+    let done = session::play(instrument, session, work, scratch, &mut out, &mut trace);
     let answer = done.answer;
-    number_of(answer)
+    let number = number_of(answer);
+    say_played(number, &out, &trace);
+    number
 }
 
 fn cue(instrument: Instrument, session: Session, work: &mut [f64]) -> u64 {
@@ -97,23 +73,43 @@ fn energies(instrument: Instrument, session: Session, work: &[f64]) -> u64 {
     answer.refusal
 }
 
-// The calls by their numbers, in the order of NAMES.
+// The calls by their places in try_call's list.
 fn call(
     kind: u64,
     instrument: Instrument,
     session: Session,
     work: &mut [f64],
     scratch: &mut [f64],
-    out: &mut [f64; 4],
-    trace: &mut [f64; 4],
 ) -> u64 {
     match kind {
         0 => energies(instrument, session, work),
-        1 => play(instrument, session, work, scratch, out, trace),
+        1 => play(instrument, session, work, scratch),
         2 => cue(instrument, session, work),
         3 => go(instrument, session, work, scratch),
         4 => insert(instrument, session, work),
         _ => remove(instrument, session, work),
+    }
+}
+
+// The memory that a call is lent, by its digests.
+struct Memory {
+    work: u64,
+    scratch: u64,
+}
+
+fn memory_of(work: &[f64], scratch: &[f64]) -> Memory {
+    Memory {
+        work: digest(work),
+        scratch: digest(scratch),
+    }
+}
+
+// A refused call leaves every cell.
+fn say_number(number: u64, before: Memory, after: Memory) {
+    io::print_decimal(STDOUT_FILENO, number);
+    if number != 0 {
+        say_changed(before.work, after.work, b" (changed)");
+        say_changed(before.scratch, after.scratch, b" (scratch changed)");
     }
 }
 
@@ -124,21 +120,11 @@ fn try_call(
     work: &mut [f64],
     scratch: &mut [f64],
 ) {
-    let mut out = [0.5; 4];
-    let mut trace = [0.5; 4];
-    let before = memory_of(work, scratch, &out, &trace);
-    let number = call(
-        kind,
-        instrument,
-        session,
-        work,
-        scratch,
-        &mut out,
-        &mut trace,
-    );
-    let after = memory_of(work, scratch, &out, &trace);
     let names = b" energies \n play \n cue \n go \n insert \n remove ";
-    say_call(row(names, kind), number, before, after);
+    io::write_all(STDOUT_FILENO, row(names, kind));
+    let before = memory_of(work, scratch);
+    let number = call(kind, instrument, session, work, scratch);
+    say_number(number, before, memory_of(work, scratch));
 }
 
 // Every call gets the same session, and the memory that the others left.

@@ -1,23 +1,25 @@
-// The record that a row's words are: the session's 616, as the crate session_words has them; of the instrument that the programs have inside
-// how many strings and keys, the rate, the felt's exponent and the number of the last key; how many cells of scratch are lent.
+// The record that a row's words are: a session, then five numbers of the instrument and how many cells of scratch are
+// lent. The instrument is the one that `rehearse` has inside.
 use instrument::Instrument;
 use session_record::Session;
 
-const SESSION: usize = 616;
+// The session's words, as the crate session_words has them.
+const SESSION: usize = session_words::LENGTH;
 
-pub const WORDS: usize = 622;
+// Where each of the other words stands.
+const STRINGS: usize = SESSION;
 
-const STRINGS: usize = 616;
+const KEYS: usize = STRINGS + 1;
 
-const KEYS: usize = 617;
+const RATE: usize = KEYS + 1;
 
-const RATE: usize = 618;
+const EXPONENT: usize = RATE + 1;
 
-const EXPONENT: usize = 619;
+const LAST_KEY: usize = EXPONENT + 1;
 
-const LAST_KEY: usize = 620;
+const LENT: usize = LAST_KEY + 1;
 
-const LENT: usize = 621;
+pub const WORDS: usize = LENT + 1;
 
 fn embedded_instrument() -> Instrument {
     let mut file = io::buffer();
@@ -36,7 +38,6 @@ pub fn instrument_of(words: &[u64; WORDS]) -> Instrument {
     i
 }
 
-// The session's words.
 pub fn session_in(words: &[u64]) -> &[u64] {
     if SESSION < words.len() {
         &words[..SESSION]
@@ -59,6 +60,7 @@ fn right_session() -> Session {
     there.session
 }
 
+// The words of a right record: that session, and the instrument as it is.
 pub fn right_words() -> [u64; WORDS] {
     let mut words = [0u64; WORDS];
     session_words::put_session(&mut words[..SESSION], right_session());

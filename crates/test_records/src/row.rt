@@ -1,5 +1,5 @@
-// What a row changes in the words of a right record: `@P` goes to word P; a number is stored there, and the next number behind it;
-// `<P` and then `*N` copy N words from word P on. A number is decimal, or hexadecimal behind an x.
+// What a row changes in the words of a right record: `@P` goes to word P; a number is stored there, and the next number
+// after it; `<P` and then `*N` copy N words from word P on. A number is decimal, or hexadecimal after an x.
 use crate::record::WORDS;
 use little_endian::byte_at;
 use little_endian::part;
