@@ -60,7 +60,7 @@ fn is_playable(instrument: Instrument, count: usize, piano: Piano, t: u64, m: u6
     valid & (sound & ((count <= 64) & ((t <= LAST) & (m <= LAST))))
 }
 
-// m samples, with a scratch cell for each string. Where the renderer cannot be asked, nothing happens.
+// m samples, with as much scratch as a play asks for. Where the renderer cannot be asked, nothing happens.
 fn play(
     cells: &mut [f64; CELLS],
     out: &mut [f64; LONGEST],
@@ -80,8 +80,8 @@ fn play(
         };
     }
     let mut scratch = [0.0 / 0.0; 32];
-    let strings = instrument.string_count;
-    let lent = &mut scratch[..strings];
+    let asked = session_record::scratch_cells(instrument);
+    let lent = &mut scratch[..asked];
     render::render(cells, lent, out, trace, instrument, score, piano, t, m)
 }
 

@@ -4,6 +4,7 @@ use lib.ListN.{length-take}
 use borrow.Author.Tests.{not-false}
 use Rattle.instrument.specs.WorkLaws.{strings-bound, part-bound}
 use Rattle.render.specs.Work.{valid-renderable}
+use Rattle.machine.specs.Refusals.{scratchCells}
 use borrow.Author.Needs.{needs}
 use Rattle.test_render.proofs.block.play.Statement.{statement}
 use Rattle.test_render.proofs.block.play.Tie as tie
@@ -14,26 +15,35 @@ is-playable-requires c κs = search needs
 returns : tie.Need-returns
 returns c = search needs
 
-array-borrow-prefix-scratch : tie.Need-array-borrow-prefix-scratch
-array-borrow-prefix-scratch c =
-    let passed = c .before .is-playable .ensures (not-false _ (c .if1 .left)) in
-    strings-bound _ (passed .0) .1
+scratch-cells-requires : tie.Need-scratch-cells-requires
+scratch-cells-requires c κs = search needs
 
-slice-aggregate-lent : tie.Need-slice-aggregate-lent
-slice-aggregate-lent c =
+array-borrow-prefix-scratch : tie.Need-array-borrow-prefix-scratch
+unfolding scratchCells
+array-borrow-prefix-scratch c =
     let tested = c .before in
     let passed = tested .before .is-playable .ensures (not-false _ (tested .if1 .left)) in
-    simp length-take (omega (arith, strings-bound _ (passed .0) .1))
+    omega (arith, strings-bound _ (passed .0) .1, c .scratch-cells .ensures)
+
+slice-aggregate-lent : tie.Need-slice-aggregate-lent
+unfolding scratchCells
+slice-aggregate-lent c =
+    let asked = c .before in
+    let tested = asked .before in
+    let passed = tested .before .is-playable .ensures (not-false _ (tested .if1 .left)) in
+    simp length-take (omega (arith, strings-bound _ (passed .0) .1, asked .scratch-cells .ensures))
 
 render-requires : tie.Need-render-requires
+unfolding scratchCells
 render-requires c κs =
     let lent = c .before .before in
-    let tested = lent .before .before in
+    let asked = lent .before .before in
+    let tested = asked .before in
     let i = tested .before .before .before .before .before .args .render .instrument in
     let passed = tested .before .is-playable .ensures (not-false _ (tested .if1 .left)) in
     let strings = strings-bound i (passed .0) .1 in
     let cells = part-bound i (passed .0) in (
-      valid-renderable i (passed .0) _ _ (omega (arith, cells, lent .render-arg .given .0 .1)) (simp length-take (omega (arith, strings))),
+      valid-renderable i (passed .0) _ _ (omega (arith, cells, lent .render-arg .given .0 .1)) (simp length-take (omega (arith, strings, asked .scratch-cells .ensures))),
       (passed .1, (passed .2, passed .3)),
     )
 
@@ -46,6 +56,7 @@ play-spec =
     (tie.spec
     is-playable-requires
     returns
+    scratch-cells-requires
     array-borrow-prefix-scratch
     slice-aggregate-lent
     render-requires
