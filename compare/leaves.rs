@@ -116,7 +116,7 @@ fn powers(stride: u64) -> Tally {
     tally
 }
 
-/// Quarters 2h beside halves h, bit for bit: the proved power of either, and the Rust's of the halves.
+/// Quarters 2h beside halves h, bit for bit but for NaNs: the proved power of either, and the Rust's of the halves.
 fn powers_of_both() -> Tally {
     let mut tally = Tally::new("power, both", 0);
     let mut random = Random::new(15);

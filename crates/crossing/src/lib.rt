@@ -1,4 +1,5 @@
-// What the calls for C and Rust share: the instrument in a file and the session in words, the number that refuses them, a call's answer as numbers, and the session written back.
+// What the calls for C and Rust share: the instrument in a file and the session in words, the number that refuses them, a
+// call's answer as numbers, and the session written back.
 ghost use mathlib.Core.Path.{_≡_};
 ghost use lib.ListN.{length};
 ghost use Rattle.instrument_file.specs.File.{readOf};
@@ -9,8 +10,8 @@ use session::Answer;
 use session::Outcome;
 use session_record::Session;
 
-// What a call answers: the refusal's number, 0 for none; play's number of forces, go's number of samples, an edit's t or the length of an adjusted file; an edit's number of cues dropped;
-// and play's contact samples of all keys at the new position.
+// What a call answers: the refusal's number, 0 for none; play's number of forces, go's number of samples, an edit's t or the
+// length of an adjusted file; an edit's number of cues dropped; and play's contact samples of all keys at the new position.
 #[repr(C)]
 pub struct Report {
     pub refusal: u64,
@@ -19,7 +20,8 @@ pub struct Report {
     pub contacts: u64,
 }
 
-// What a file asks of its player: the refusal's number, 0 for none; samples a second; keys and strings; words of a session, cells of work memory and of scratch.
+// What a file asks of its player: the refusal's number, 0 for none; samples a second; keys and strings; words of a session,
+// cells of work memory and of scratch.
 #[repr(C)]
 pub struct Sizes {
     pub refusal: u64,

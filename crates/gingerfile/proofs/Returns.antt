@@ -137,7 +137,8 @@ unfolding handedRefusal wholePairs allBelow
 no-pairs f z = rw (eq-eqb (readOf f .refusal) 0 z)
 
 -- so that the writer gets the record that was read, and gives the file back: `read-written`
-pub gives-back : (f keys : List ℕ) (weights : List Float) {out out′ : List ℕ} {r : Report} → Bytes f → AdjustMeets f keys weights out r out′ → GivesBack f keys weights out r out′
+pub gives-back : (f keys : List ℕ) (weights : List Float) {out out′ : List ℕ} {r : Report} → Bytes f → AdjustMeets f keys weights out r out′
+    → GivesBack f keys weights out r out′
 unfolding weightedBy
 gives-back f keys weights {out} {out′} {r} ok m z none no-weights room =
     let adjusted : AdjustMeets f [] [] out r out′ = rw (none, no-weights) at m in

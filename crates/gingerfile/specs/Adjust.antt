@@ -29,7 +29,8 @@ AdjustMeets f keys weights out r out′ =
     Meets (handedRefusal (readOf f .refusal) (wholePairs (readOf f .instrument) keys weights)) (λ n. (r ≡ refusedBy n) × (out′ ≡ out))
     (Saved (weightedBy (readOf f .instrument) keys weights) out r out′)
 
--- "for each accepted file, reading and writing gives the same bytes", of this call, which reads and writes: with no pair and as many bytes lent, the file itself
+-- "for each accepted file, reading and writing gives the same bytes": this call reads and writes, so with no pair and as many bytes lent
+-- it gives the file itself
 abbrev pub GivesBack : List ℕ → List ℕ → List Float → List ℕ → Report → List ℕ → Type 0
 GivesBack f keys weights out r out′ =
     readOf f .refusal ≡ 0 → keys ≡ [] → weights ≡ [] → length f ≤ length out → (r ≡ writtenAs (wrote (length f))) × (out′ ≡ f ++ drop (length f) out)

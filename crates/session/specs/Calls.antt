@@ -1,5 +1,6 @@
--- Document 01, "The session": what each call promises, by equation: its answer, the session, and every cell of work memory, output and trace afterwards. Scratch is free in an accepted
--- call; a refused one leaves it. Which part holds which cue is fixed: slot j in part j + 1. Definitions only: assumes nothing.
+-- Document 01, "The session": what each call promises, by equation: its answer, the session, and every cell of work memory, output and
+-- trace afterwards. Scratch is free in an accepted call, and a refused one leaves it. Which part holds which cue is fixed: slot j in part
+-- j + 1. Definitions only: assumes nothing.
 use mathlib.Core.Path.{_≡_}
 use mathlib.Core.Bool.{true, false, cond}
 use mathlib.Core.List.{List, _++_, map}
@@ -58,7 +59,8 @@ refusedWith s n = record { answer = Refused n; session = s }
 abbrev pub Refuses : Session → (work : List Float) → Outcome → (work′ : List Float) → ℕ → Type 0
 Refuses s work r work′ n = (r ≡ refusedWith s n) × (work′ ≡ work)
 
--- "If .. a lent buffer breaks a rule .., the call .. changes no record and no buffer": of scratch, before and after a call of that number. In an accepted call its cells are free
+-- Demand 1: a refused call "changes no record and no buffer". Of scratch, before and after a call of that number; in an accepted call its
+-- cells are free
 abbrev pub ScratchStays : ℕ → (scratch scratch′ : List Float) → Type 0
 ScratchStays number scratch scratch′ = (number ≡ 0 → ⊥) → scratch′ ≡ scratch
 

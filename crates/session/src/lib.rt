@@ -90,8 +90,8 @@ pub fn play(
 ) -> Outcome
     ensures { λ r. ⌜ PlayMeets instrument session (now (work .entry)) (length (now (scratch .entry))) (now (out .entry)) (now (trace .entry))
         r (now (work .exit)) (now (out .exit)) (now (trace .exit)) ⌝ }
-    ensures { λ _. ⌜ ScratchStays (playNumber instrument session (length (now (work .entry))) (length (now (scratch .entry))) (length (now (out .entry))) (length (now (trace .entry))))
-        (now (scratch .entry)) (now (scratch .exit)) ⌝ }
+    ensures { λ _. ⌜ ScratchStays (playNumber instrument session (length (now (work .entry))) (length (now (scratch .entry)))
+        (length (now (out .entry))) (length (now (trace .entry)))) (now (scratch .entry)) (now (scratch .exit)) ⌝ }
 {
     let refusal = session_record::play_refusal(
         instrument,
@@ -204,7 +204,8 @@ pub fn go(
     p: u64,
 ) -> Outcome
     ensures { λ r. ⌜ GoMeets instrument session (now (work .entry)) (length (now (scratch .entry))) p r (now (work .exit)) ⌝ }
-    ensures { λ _. ⌜ ScratchStays (goNumber instrument session (length (now (work .entry))) (length (now (scratch .entry))) p) (now (scratch .entry)) (now (scratch .exit)) ⌝ }
+    ensures { λ _. ⌜ ScratchStays (goNumber instrument session (length (now (work .entry))) (length (now (scratch .entry))) p)
+        (now (scratch .entry)) (now (scratch .exit)) ⌝ }
 {
     let refusal = session_record::go_refusal(instrument, session, work.len(), scratch.len(), p);
     if refusal != 0 {

@@ -102,7 +102,8 @@ module _ (p : Piano) (h1 : length (p .held) ≡ 16) (h2 : length (p .«hand_damp
 -- ---- the test
 
 pub piano-tested : (w : List ℕ) (at : ℕ) (held damped pedal hammer : Bool) → held ≡ every (itemsOf isFlag 1 16 (drop at w))
-    → damped ≡ every (itemsOf isFlag 1 16 (drop (at + handDampedOffset) w)) → pedal ≡ isFlag (drop (at + pedalOffset) w) → hammer ≡ isFlag (drop (at + motionOffset) w)
+    → damped ≡ every (itemsOf isFlag 1 16 (drop (at + handDampedOffset) w)) → pedal ≡ isFlag (drop (at + pedalOffset) w)
+    → hammer ≡ isFlag (drop (at + motionOffset) w)
     → (held && damped && pedal && hammer) ≡ isPiano (drop at w)
 unfolding isPiano
 piano-tested w at held damped pedal hammer e1 e2 e3 e4 =

@@ -128,8 +128,10 @@ module _ (w : List ℕ) (at : ℕ) where
     cue-tested h ep = let here : kept ≡ getD (drop at w) 0 0 = e ∙ first w at in rw (drop-drop cuePianoOffset at w, ← here, ne-eqb kept 0 h, ep)
 
 module _ (w : List ℕ) (s : Session) where
-  pub read-whole : s ≡ sessionOf w → (a b c : Bool) → length w ≡ sessionSize → a ≡ every (itemsOf isTimed timedSize (countedEvents (getD w 1 0)) (drop eventsOffset w))
-      → b ≡ every (itemsOf isCue cueSize 4 (drop cuesOffset w)) → c ≡ isPiano (drop pianoOffset w) → ReadMeets w (record { «is_session» = a && b && c; session = s })
+  pub read-whole : s ≡ sessionOf w → (a b c : Bool) → length w ≡ sessionSize
+      → a ≡ every (itemsOf isTimed timedSize (countedEvents (getD w 1 0)) (drop eventsOffset w))
+      → b ≡ every (itemsOf isCue cueSize 4 (drop cuesOffset w)) → c ≡ isPiano (drop pianoOffset w)
+      → ReadMeets w (record { «is_session» = a && b && c; session = s })
   unfolding isSession
   read-whole es a b c h ea eb ec = record { answer = rw (eq-eqb (length w) sessionSize h, ea, eb, ec); reads = λ _. es }
 

@@ -110,8 +110,8 @@ module _ {A : Type 0} where
         ∙ ap (λ (v : List A). x ∷ v) (items-back g back xs (h .1) r)
 
     -- where every item's words pass a test, so do the first n of those that were written
-    pub items-pass : (test : List ℕ → Bool) → ((x : A) → P x → (r : List ℕ) → test (f x ++ r) ≡ true) → (n : ℕ) (xs : List A) → AllOf P xs → n ≤ length xs → (r : List ℕ)
-        → every (itemsOf test width n (joined f xs ++ r)) ≡ true
+    pub items-pass : (test : List ℕ → Bool) → ((x : A) → P x → (r : List ℕ) → test (f x ++ r) ≡ true) → (n : ℕ) (xs : List A) → AllOf P xs
+        → n ≤ length xs → (r : List ℕ) → every (itemsOf test width n (joined f xs ++ r)) ≡ true
     unfolding joined itemsOf AllOf every everyAfter
     items-pass test pass zero xs h k r = refl
     items-pass test pass (suc n) [] h k r = absurd (omega arith)

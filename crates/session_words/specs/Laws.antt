@@ -1,5 +1,5 @@
--- Every session is read back from its words, and they are told to be a session's. `FitSession` says what every value of the record's type has and a definition alone cannot see.
--- Assumes nothing.
+-- Every session is read back from its words, and they are told to be a session's. `FitSession` says what every value of the record's type
+-- has and a definition alone cannot see. Assumes nothing.
 use mathlib.Core.Path.{_≡_, refl, sym, ap, _∙_}
 use mathlib.Core.Bool.{Bool, true, false, cond}
 use mathlib.Core.List.{List, [], _∷_, _++_, append-nil}
@@ -193,7 +193,7 @@ fit-cue-of : (w : List ℕ) → FitCue (cueOf w)
 unfolding cueOf
 fit-cue-of w = fit-piano-of (drop cuePianoOffset w)
 
-pub fit-of : (w : List ℕ) → FitSession (sessionOf w)
+fit-of : (w : List ℕ) → FitSession (sessionOf w)
 unfolding sessionOf
 fit-of w =
     record {
@@ -203,3 +203,8 @@ fit-of w =
       cues = all-items FitCue cueOf fit-cue-of cueSize 4 (drop cuesOffset w);
       piano = fit-piano-of (drop pianoOffset w);
     }
+
+-- THE LAW: whatever the words are, what is read from them is read again from its own words. So an accepted call that writes a session over
+-- the words it was read from changes nothing that is read
+pub words-again : (w : List ℕ) → sessionOf (wordsOf (sessionOf w)) ≡ sessionOf w
+words-again w = session-back (sessionOf w) (fit-of w)

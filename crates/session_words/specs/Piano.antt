@@ -1,5 +1,6 @@
--- A piano's small state as words, and which words are one's: 16 held, 16 hand-damped, 16 damper resistances, 16 contact samples, the pedal, then the hammer (1 where it flies, its key's index, y_h, v_h) and peak
--- force. A bool is 1 or 0, a float its bits. Definitions only: assumes nothing.
+-- A piano's small state as words: 16 held, 16 hand-damped, 16 damper resistances, 16 contact samples, the pedal, then the hammer (1 where
+-- it flies, its key's index, y_h, v_h) and peak force. A bool is 1 or 0, a float its bits. Then which words are a piano's. Definitions
+-- only: assumes nothing.
 use mathlib.Core.Bool.{Bool, cond, _&&_}
 use mathlib.Core.List.{List, [], _∷_, _++_}
 use Prim.Native.Nat.{ℕ}
@@ -66,11 +67,13 @@ pianoOf w =
       motion = motionOf (drop motionOffset w);
     }
 
--- ---- which words are a piano's: those whose flags, held and hand-damped, pedal and hammer, are 0 or 1. A float's word may be any: every pattern of a NaN is read as NaN. So may a key's
--- count, and what stands behind the flag of a hammer at rest
+-- ---- which words are a piano's: those whose flags, of held and hand-damped keys, the pedal and the hammer, are 0 or 1. Any word is a
+-- float's, and every NaN's is read as NaN; any word is a count, and any words may follow the flag of a hammer at rest
 
 abbrev pub isFlag : List ℕ → Bool
 isFlag w = leb (getD w 0 0) 1
 
 unfoldable pub isPiano : List ℕ → Bool
-isPiano w = every (itemsOf isFlag 1 16 w) && every (itemsOf isFlag 1 16 (drop handDampedOffset w)) && isFlag (drop pedalOffset w) && isFlag (drop motionOffset w)
+isPiano w =
+    every (itemsOf isFlag 1 16 w) && every (itemsOf isFlag 1 16 (drop handDampedOffset w)) && isFlag (drop pedalOffset w)
+    && isFlag (drop motionOffset w)

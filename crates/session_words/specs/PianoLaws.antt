@@ -1,5 +1,5 @@
--- Every piano is read back from its words, and they are told to be one's. `FitPiano` says what every value of the record's type has and a definition alone cannot see: its floats are f64s, its arrays as long as
--- declared. Assumes nothing.
+-- Every piano is read back from its words, and they are told to be one's. `FitPiano` says what every value of the record's type has and a
+-- definition alone cannot see: its floats are f64s, its arrays as long as declared. Assumes nothing.
 use mathlib.Core.Path.{_≡_, refl, sym, ap, _∙_}
 use mathlib.Core.Bool.{Bool, true, false, cond}
 use mathlib.Core.List.{List, [], _∷_, _++_, append-assoc}

@@ -60,8 +60,8 @@ sessionOf w =
       piano = pianoOf (drop pianoOffset w);
     }
 
--- ---- which words are a session's: as many as it has, and each that counts has a meaning. What counts for nothing may hold anything: events past the count, a cue that is not kept, and
--- the velocity of an event that is not a strike
+-- ---- which words are a session's: as many as it has, and each that counts has a meaning. What counts for nothing may hold anything:
+-- events past the count, a cue that is not kept, and the velocity of an event that is not a strike
 
 abbrev pub isTimed : List ℕ → Bool
 isTimed w = isEvent (getD w 1 0) (getD w 2 0)
@@ -76,7 +76,9 @@ countedEvents n = cond (leb n 64) n 64
 unfoldable pub isSession : List ℕ → Bool
 isSession w =
     eqb (length w) sessionSize
-    && (every (itemsOf isTimed timedSize (countedEvents (getD w 1 0)) (drop eventsOffset w)) && every (itemsOf isCue cueSize 4 (drop cuesOffset w)) && isPiano (drop pianoOffset w))
+    && (every (itemsOf isTimed timedSize (countedEvents (getD w 1 0)) (drop eventsOffset w))
+    && every (itemsOf isCue cueSize 4 (drop cuesOffset w))
+    && isPiano (drop pianoOffset w))
 
 -- what reading w promises
 pub record ReadMeets (w : List ℕ) (r : Read) : Type 0 where

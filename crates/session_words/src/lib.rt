@@ -1,4 +1,5 @@
-// The session's record as 616 words in a lent slice, so that it can cross to C and Rust. What is written is read back, and words that count and have no meaning are told.
+// The session's record as 616 words in a lent slice, so that it can cross to C and Rust. What is written is read back, and words
+// that count and have no meaning are told.
 mod cue;
 mod event;
 mod layout;

@@ -1,5 +1,5 @@
--- What refuses file or pairs is answered, and nothing is written; else what the writer promises is the promise: `adjust-saved`. That an accepted file comes back
--- follows from it, since every element of a slice of bytes is one: `gives-back`. Assumes nothing.
+-- What refuses file or pairs is answered, and nothing is written; else what the writer promises is the promise: `adjust-saved`.
+-- That an accepted file comes back follows from it, since every element of a slice of bytes is one: `gives-back`. Assumes nothing.
 use mathlib.Core.Path.{refl}
 use Rattle.gingerfile.proofs.Returns.{adjust-refused, adjust-saved, gives-back}
 use borrow.Author.Needs.{needs}

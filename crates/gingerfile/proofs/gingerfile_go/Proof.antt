@@ -1,4 +1,5 @@
--- What refuses file or words is answered, and nothing is written; else what go promises and what `keep` writes are the promise: `call-made`. Scratch by `report-stays`. Assumes nothing.
+-- What refuses file or words is answered, and nothing is written; else what go promises and what `keep` writes are the promise:
+-- `call-made`. Scratch by `report-stays`. Assumes nothing.
 use mathlib.Core.Path.{refl}
 use Rattle.gingerfile.proofs.Returns.{begun-long, call-refused, call-made, report-stays}
 use borrow.Author.Needs.{needs}

@@ -1,4 +1,5 @@
--- `root::root` meets its contract: the equation by the facts of `proofs/Patterns.antt`, the standard's words from it by `root-law`. Of the guess nothing is used. Assumes nothing.
+-- `root::root` meets its contract: the equation by the facts of `proofs/Patterns.antt`, the standard's words from it by `root-law`. Of
+-- the guess nothing is used. Assumes nothing.
 use mathlib.Core.Path.{_≡_, refl, sym, _∙_, subst}
 use Prim.Native.Nat.{ℕ, _+_, _-_, _*_, _/_, _%_, _^_, _<_}
 use native.Mathlib.Omega.{arith}
@@ -51,7 +52,9 @@ is-rounded-requires c κs = search needs
 
 returns : tie.Need-returns
 unfolding ofBits
-returns c = let p = c .before .before .before .before .before in both (p .before .before .before) (c .before .is-rounded .ensures (c .if4 .taken) ∙ pattern p _ refl .2)
+returns c =
+    let p = c .before .before .before .before .before in
+    both (p .before .before .before) (c .before .is-rounded .ensures (c .if4 .taken) ∙ pattern p _ refl .2)
 
 guess-requires : tie.Need-guess-requires
 guess-requires c κs = search needs

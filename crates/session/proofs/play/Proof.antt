@@ -1,4 +1,5 @@
--- A refused play gives back what it got, scratch as it was. Where the tests passed, which `p` holds in each need, the renderer may have the first part, and what it gives is the promise.
+-- A refused play gives back what it got, and scratch is as it was. Where the tests passed, which `p` holds in each need, the renderer
+-- may have the first part, and what it gives is the promise.
 use mathlib.Core.Path.{refl, sym, _∙_}
 use native.Mathlib.Omega.{arith}
 use lib.Seq.{length-take-le}

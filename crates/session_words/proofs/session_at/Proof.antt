@@ -23,7 +23,8 @@ returns c =
     let events = cues .before in
     let long = events .before in
     let z = long .before .before .args in
-    read-whole (z .words .now) _ (c .session-in .ensures) _ _ _ (long .if1 .taken) (events .are-events .ensures) (cues .are-cues .ensures) (piano .is-piano .ensures)
+    read-whole (z .words .now) _ (c .session-in .ensures) _ _ _ (long .if1 .taken) (events .are-events .ensures) (cues .are-cues .ensures)
+    (piano .is-piano .ensures)
 
 blank-requires : tie.Need-blank-requires
 blank-requires c κs = search needs

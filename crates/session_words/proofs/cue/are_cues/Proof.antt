@@ -42,7 +42,8 @@ loop-again c =
     let z = c .before .before .before .before .args in
     let l = c .before .before .loop in
     let w = z .words .now in
-    (omega arith, l .inv .1, every-item isCue cueSize (l .i) (drop cuesOffset w) (l .right) _ (l .inv .2) (c .is-cue .ensures ∙ ap isCue (item-at w cuesOffset cueSize (l .i))))
+    let cue = c .is-cue .ensures ∙ ap isCue (item-at w cuesOffset cueSize (l .i)) in
+    (omega arith, l .inv .1, every-item isCue cueSize (l .i) (drop cuesOffset w) (l .right) _ (l .inv .2) cue)
 
 returns : tie.Need-returns Inv-loop μ-loop
 returns c =

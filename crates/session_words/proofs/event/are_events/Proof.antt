@@ -14,7 +14,8 @@ use Rattle.session_words.proofs.event.are_events.Statement.{statement}
 use Rattle.session_words.proofs.event.are_events.Tie as tie
 
 abbrev Inv-loop : tie.InvT-loop
-Inv-loop words count n right₀ i₀ right i = (i ≤ n) × (n ≤ 64) × (cuesOffset ≤ length words) × (right ≡ every (itemsOf isTimed timedSize i (drop eventsOffset words)))
+Inv-loop words count n right₀ i₀ right i =
+    (i ≤ n) × (n ≤ 64) × (cuesOffset ≤ length words) × (right ≡ every (itemsOf isTimed timedSize i (drop eventsOffset words)))
 
 abbrev μ-loop : tie.MeasureT-loop
 μ-loop words count n right₀ i₀ right i = n - i
@@ -48,12 +49,9 @@ loop-again : tie.Need-loop-again Inv-loop μ-loop
 loop-again c =
     let l = c .before .before .loop in
     let z = c .before .before .before .before .before .before .args in
-    let w = z .words .now in (
-      omega arith,
-      l .inv .1,
-      l .inv .2,
-      every-item isTimed timedSize (l .i) (drop eventsOffset w) (l .right) _ (l .inv .3) (c .is-timed .ensures ∙ ap isTimed (item-at w eventsOffset timedSize (l .i))),
-    )
+    let w = z .words .now in
+    let event = c .is-timed .ensures ∙ ap isTimed (item-at w eventsOffset timedSize (l .i)) in
+    (omega arith, l .inv .1, l .inv .2, every-item isTimed timedSize (l .i) (drop eventsOffset w) (l .right) _ (l .inv .3) event)
 
 returns : tie.Need-returns Inv-loop μ-loop
 returns c =
@@ -61,7 +59,8 @@ returns c =
     let told = c .before .before in
     let w = told .before .before .before .args .words .now in
     let n : l .i ≡ told .counted-events .result = omega arith in
-    l .inv .3 ∙ ap (λ (k : ℕ). every (itemsOf isTimed timedSize k (drop eventsOffset w))) (n ∙ told .counted-events .ensures ∙ ap countedEvents (told .before .word-at .ensures))
+    let counted = n ∙ told .counted-events .ensures ∙ ap countedEvents (told .before .word-at .ensures) in
+    l .inv .3 ∙ ap (λ (k : ℕ). every (itemsOf isTimed timedSize k (drop eventsOffset w))) counted
 
 pub are-events-spec : {M : Type 1} → statement M
 are-events-spec =
