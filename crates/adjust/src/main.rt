@@ -1,5 +1,7 @@
 // `adjust INSTRUMENT OUT [KEY WEIGHT]..`: sets the weights of those keys, and writes the instrument with the proved writer. OUT appears whole or not at all, so that it may be INSTRUMENT
 // itself. It answers one line, `ok LENGTH` or `refused N: ..`, or tells on standard error what is wrong with which word or file.
+#![tactic(auto)]
+
 mod pairs;
 
 use instrument::Instrument;

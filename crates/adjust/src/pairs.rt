@@ -9,7 +9,7 @@ use text::lines::row;
 use text::{Number, Real, put, put_counted};
 
 // What is wrong with a pair, in the order of the rows that say it.
-#[derive(Drop)]
+#[derive(Clone, Copy)]
 enum Flaw {
     NoKey,
     NoWeight,
@@ -18,7 +18,7 @@ enum Flaw {
     None,
 }
 
-#[derive(Drop)]
+#[derive(Clone, Copy)]
 struct Pair {
     key: u8,
     weight: f64,

@@ -1,4 +1,6 @@
 // The program `rehearse` without its files: one line of a script is one call, answered by one line of text. It holds the session and how much of its memory it lends.
+#![tactic(auto)]
+
 ghost use Rattle.std.specs.Prelude.{◌≡◌, ◌≤◌, length, take};
 
 mod calls;
@@ -22,21 +24,21 @@ pub const LONGEST: u64 = 65536;
 const MOST_SCRATCH: u64 = 256;
 
 // How many cells of each buffer a call gets. A trace of more cells than the program has is lent as all that it has: no part of a play is longer.
-#[derive(Drop)]
+#[derive(Clone, Copy)]
 pub struct Lent {
     pub scratch: usize,
     pub trace: usize,
     pub work: usize,
 }
 
-#[derive(Drop)]
+#[derive(Clone, Copy)]
 pub struct Console {
     pub session: Session,
     pub lent: Lent,
 }
 
 // What a line is answered: nothing, what it lacks, a call's answer, that it is done, or what it asked to see.
-#[derive(Drop)]
+#[derive(Clone, Copy)]
 pub enum Response {
     Skipped,
     Bad(Fault),
@@ -47,7 +49,7 @@ pub enum Response {
 }
 
 // A line's reply, and how many samples and forces its call put into the lent buffers.
-#[derive(Drop)]
+#[derive(Clone, Copy)]
 pub struct Turn {
     pub console: Console,
     pub reply: Response,

@@ -10,7 +10,7 @@ use std::num::{wrapping_add_u64, wrapping_sub_u64};
 use text::script::{Command, Kind};
 
 // What is left of a line's command, and the number that its parts have given so far.
-#[derive(Drop)]
+#[derive(Clone, Copy)]
 pub struct Task {
     pub command: Command,
     pub sum: u64,

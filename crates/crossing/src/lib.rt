@@ -1,5 +1,7 @@
 // What the calls for C and Rust share: the instrument in a file and the session in words, the number that refuses them, a
 // call's answer as numbers, and the session written back.
+#![tactic(auto)]
+
 ghost use Rattle.std.specs.Prelude.{◌≡◌, length};
 ghost use Rattle.instrument_file.specs.File.{read_of};
 ghost use Rattle.session_words.specs.Layout.{session_size};
@@ -12,7 +14,7 @@ use session_record::Session;
 // What a call answers: the refusal's number, 0 for none; play's number of forces, go's number of samples, an edit's t or the
 // length of an adjusted file; an edit's number of cues dropped; and play's contact samples of all keys at the new position.
 #[repr(C)]
-#[derive(Drop)]
+#[derive(Clone, Copy)]
 pub struct Report {
     pub refusal: u64,
     pub value: u64,
@@ -23,7 +25,7 @@ pub struct Report {
 // What a file asks of its player: the refusal's number, 0 for none; samples a second; keys and strings; words of a session,
 // cells of work memory and of scratch.
 #[repr(C)]
-#[derive(Drop)]
+#[derive(Clone, Copy)]
 pub struct Sizes {
     pub refusal: u64,
     pub fs: f64,
@@ -35,7 +37,7 @@ pub struct Sizes {
 }
 
 // The instrument in a file and the session that words are; the number that refuses the file or the words, 0 for none.
-#[derive(Drop)]
+#[derive(Clone, Copy)]
 pub struct Begun {
     pub refusal: u64,
     pub instrument: Instrument,

@@ -1,12 +1,14 @@
 // Where a string is struck and damped: the three lengths of its delay lines, as in the Rust's
 // `StringWg::new`.
+#![tactic(auto)]
+
 ghost use Rattle.std.specs.Prelude.{◌≡◌, ◌-◌, max};
 ghost use Rattle.cuts.specs.Cuts.{clamp_to, half_of, cell_at, cuts_of};
 
 use float::round_away;
 
 // From the nut to the strike point, from there to the damper, and from there to the bridge.
-#[derive(Drop)]
+#[derive(Clone, Copy)]
 pub struct Cuts {
     pub na: usize,
     pub nb: usize,

@@ -6,7 +6,7 @@ use program::floats::read_floats;
 use program::wave;
 use program::wave::Wave;
 
-#[derive(Drop)]
+#[derive(Clone, Copy)]
 pub struct Plan {
     pub source: i32,
     pub start: u64,
@@ -16,7 +16,7 @@ pub struct Plan {
 }
 
 // The window's first sample, how many it has, and how many of its outputs are dropped.
-#[derive(Drop)]
+#[derive(Clone, Copy)]
 struct Window {
     first: usize,
     samples: usize,
@@ -97,7 +97,7 @@ fn thin(factor: usize, taps: &[f64; 127], samples: &[f64], n: usize, outputs: &m
 }
 
 // How far the output is, and whether the input could be read.
-#[derive(Drop)]
+#[derive(Clone, Copy)]
 pub struct Thinned {
     pub wave: Wave,
     pub is_read: bool,

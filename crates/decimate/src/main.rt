@@ -1,5 +1,7 @@
 // `decimate IN.wav TAPS FACTOR OUT.wav`: every FACTOR-th sample of a mono WAV file of 64-bit floats, behind the 127 little-endian floats of TAPS. It writes one line on what it did, or to
 // standard error what is wrong with which file.
+#![tactic(auto)]
+
 mod blocks;
 mod wave_in;
 
@@ -15,7 +17,7 @@ use std::num::wrapping_add_usize;
 use text::{Number, put_counted};
 use wave_in::Signal;
 
-#[derive(Drop)]
+#[derive(Clone, Copy)]
 enum Factor {
     Of(usize),
     TooHigh,

@@ -7,7 +7,7 @@ use text::lines::row;
 use wav::Chunk;
 
 // Where the samples start in the file and how many there are; `found` is false once something is wrong, and then it has been said.
-#[derive(Drop)]
+#[derive(Clone, Copy)]
 pub struct Signal {
     pub found: bool,
     pub rate: u64,
@@ -16,7 +16,7 @@ pub struct Signal {
 }
 
 // The search through the chunks, and what is wrong with a file.
-#[derive(Drop)]
+#[derive(Clone, Copy)]
 enum Search {
     Unformatted,
     Formatted,
@@ -31,7 +31,7 @@ enum Search {
 }
 
 // Where the search stands: the chunk at `at` comes next, or the data of `size` bytes lie there.
-#[derive(Drop)]
+#[derive(Clone, Copy)]
 struct Place {
     search: Search,
     rate: u64,

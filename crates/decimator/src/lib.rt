@@ -1,4 +1,6 @@
 // Thinning a signal to every factor-th sample, behind 127 lent taps.
+#![tactic(auto)]
+
 ghost use Rattle.std.specs.Prelude.{◌≡◌, ◌*◌, ◌<◌, length};
 ghost use Rattle.counting.specs.Below.{tabulate};
 ghost use Rattle.decimator.specs.Decimate.{refusal_of, weighed, filtered_at, output_length, DecimateMeets};

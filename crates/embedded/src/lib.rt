@@ -1,4 +1,6 @@
 // What `rehearse` plays where no file is named: an instrument of eight keys, and a phrase.
+#![tactic(auto)]
+
 mod phrase;
 mod piano;
 

@@ -1,5 +1,7 @@
 // Document 01, "The session": `key_energies` as in the Rust. A line's energy is the sum of its cells' squares, a string's that of its six lines, a key's that of its strings; each sum
 // starts at +0 and goes in the Rust's order. Work memory is lent shared: nothing changes.
+#![tactic(auto)]
+
 ghost use Rattle.std.specs.Prelude.{◌≡◌, true, ◌+◌, ◌≤◌, length};
 ghost use Rattle.cells.specs.Splice.{part};
 ghost use Rattle.counting.specs.Below.{pad, tabulate};
@@ -16,21 +18,21 @@ use session_record::Session;
 use string::StringDesign;
 
 // A key's number and its energy.
-#[derive(Drop)]
+#[derive(Clone, Copy)]
 pub struct KeyEnergy {
     pub key: u8,
     pub energy: f64,
 }
 
 // The first `count` are the keys' in the file's order; zeros past them.
-#[derive(Drop)]
+#[derive(Clone, Copy)]
 pub struct Energies {
     pub keys: [KeyEnergy; 16],
     pub count: usize,
 }
 
 // The refusal's number and zeros, or 0 and the energies.
-#[derive(Drop)]
+#[derive(Clone, Copy)]
 pub struct EnergiesAnswer {
     pub refusal: u64,
     pub energies: Energies,

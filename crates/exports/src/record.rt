@@ -4,7 +4,7 @@ use instrument_writer::WriteAnswer;
 
 // The refusal's number, 0 for none; the record; W and 5W.
 #[repr(C)]
-#[derive(Drop)]
+#[derive(Clone, Copy)]
 pub struct Reading {
     pub refusal: u32,
     pub instrument: Instrument,

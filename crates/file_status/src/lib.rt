@@ -4,6 +4,8 @@
 // The borrow checker does not cover a reference to a struct. So each such call stands alone in a
 // function that makes the struct, lends it for the call and passes it on by value, and one proof by
 // hand serves them all (`proofs/Filled.antt`). No public function has a `requires`.
+#![tactic(auto)]
+
 mod clock;
 
 ghost use Rattle.libc.specs.Io.{Ended};
@@ -17,7 +19,7 @@ const LAST: usize = PATH_MAX - 1;
 
 // What the system knows of a file. Where it could not be asked, or the path is none, `is_known` is
 // false and the numbers are 0. Two names stand for one file where device and inode are the same.
-#[derive(Drop)]
+#[derive(Clone, Copy)]
 pub struct FileStatus {
     pub is_known: bool,
     pub device: u64,

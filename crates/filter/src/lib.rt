@@ -1,11 +1,13 @@
 // The filters of a string's loop (document 01: Thiran, the dispersion stages, the loss), in place on lent cells. Each is total: see `specs/Filter.antt`
 // for what fewer cells than a filter holds mean.
+#![tactic(auto)]
+
 ghost use Rattle.std.specs.Prelude.{◌≡◌, ◌+◌, ◌≤◌, length};
 ghost use Rattle.filter.specs.Steps.{finish_out, finish_cells};
 ghost use Rattle.filter.specs.Filter.{stage_out, stage_cells, row_out, row_cells, loop_out, loop_cells};
 
 // A string's four coefficients.
-#[derive(Drop)]
+#[derive(Clone, Copy)]
 pub struct LoopFilter {
     pub thiran_a: f64,
     pub ap_a: f64,

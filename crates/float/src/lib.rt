@@ -1,4 +1,6 @@
 // What the Rust takes from its library on f64 and Rattle does not have: min, max, clamp, and rounding to a whole number.
+#![tactic(auto)]
+
 ghost use Rattle.std.specs.Prelude.{◌≡◌};
 ghost use Rattle.float.specs.Float.{min_of, max_of, clamp_of, positive_part, round_away};
 

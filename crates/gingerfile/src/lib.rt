@@ -1,6 +1,8 @@
 // The piano for a program in C or Rust: numbers and lent slices alone cross. The instrument crosses as its file's bytes, the session as 616 words (crate session_words), an event by its
 // numbers. Each call reads the file and the words, makes the session's call, and writes the words; a refused call changes nothing, the words neither. `gingerfile_adjust` has no session: it
 // reads a file and writes one.
+#![tactic(auto)]
+
 ghost use Rattle.std.specs.Prelude.{◌≡◌, ◌&&◌, eqb, length};
 ghost use Rattle.decimator.specs.Decimate.{output_length, DecimateMeets};
 ghost use Rattle.instrument_file.specs.File.{read_of};
@@ -17,7 +19,7 @@ use score::TimedEvent;
 
 // Each key's energy and number in the file's order, zeros past the last; the refusal's number, 0 for none.
 #[repr(C)]
-#[derive(Drop)]
+#[derive(Clone, Copy)]
 pub struct KeyEnergies {
     pub refusal: u64,
     pub count: usize,

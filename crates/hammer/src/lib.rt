@@ -1,4 +1,6 @@
 // The felt hammer and the force of its contact with one string.
+#![tactic(auto)]
+
 ghost use Rattle.std.specs.Prelude.{◌≡◌, true, cond, ◌⊎◌};
 ghost use Rattle.std.specs.Float.Ieee.{eq};
 ghost use Rattle.float.specs.Float.{zero as +0};
@@ -10,7 +12,7 @@ use power::{power, quarters_of};
 
 // The exponent is the file's word: halves, or 256 and quarters.
 #[repr(C)]
-#[derive(Drop)]
+#[derive(Clone, Copy)]
 pub struct Hammer {
     pub stiffness: f64,
     pub exponent: u32,
@@ -57,7 +59,7 @@ fn choose(t: bool, a: f64, b: f64) -> f64
 }
 
 // What halvings leave: the force lies from lo to hi.
-#[derive(Drop)]
+#[derive(Clone, Copy)]
 struct Interval {
     lo: f64,
     hi: f64,
@@ -167,7 +169,7 @@ fn are_moderate(hammer: Hammer, eps_r: f64, c0: f64, c1: f64, top: f64) -> bool
 }
 
 // What a guess found; where nothing, the guess to try next.
-#[derive(Drop)]
+#[derive(Clone, Copy)]
 struct Trial {
     found: bool,
     force: f64,
@@ -211,7 +213,7 @@ fn try_guess(hammer: Hammer, eps_r: f64, c0: f64, c1: f64, top: f64, guess: f64)
 
 // A force, and how it was found: trials is 0 where one of the first two tests answered, 1 or 2 where
 // the first or the second guess did, 3 where the felt's own test halved. It is for benches.
-#[derive(Drop)]
+#[derive(Clone, Copy)]
 pub struct Search {
     pub force: f64,
     pub trials: u32,

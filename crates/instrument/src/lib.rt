@@ -1,4 +1,6 @@
 // The instrument's record. Refusal 7 on an instrument: the test of a handed-in record. "The session": S and W of a record.
+#![tactic(auto)]
+
 ghost use Rattle.std.specs.Prelude.{◌≡◌, true, not, ◌*◌, ◌≤◌, ◌<◌, eqb};
 ghost use Rattle.instrument.specs.Valid.{keys_in_range, string_sum, new_key, keys_apart, keys_unused, strings_in_range, strings_unused, counted, keys_valid, strings_valid, valid};
 ghost use Rattle.instrument.specs.KeyIndex.{key_index};
@@ -11,7 +13,7 @@ use instrument_fields::{
 
 // The keys in the file's order, and their strings, key after key: key k's stand after those of the keys before it. Places past the counts hold zeros.
 #[repr(C)]
-#[derive(Drop)]
+#[derive(Clone, Copy)]
 pub struct Instrument {
     pub common: Common,
     pub key_count: usize,

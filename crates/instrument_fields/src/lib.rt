@@ -1,5 +1,7 @@
 // Document 01, "Instrument file": the records of the common section, of a key and of a string, where each field stands in its section's bytes, the field's range, and the values
 // of a place that holds no key or no string.
+#![tactic(auto)]
+
 ghost use Rattle.std.specs.Prelude.{◌≡◌};
 ghost use Rattle.instrument_fields.specs.Fields.{hammer_of, common_of, key_of, loop_of};
 ghost use Rattle.instrument_fields.specs.Ranges.{within, strictly_between, exponent_in_range, hammer_in_range, common_in_range, key_in_range, string_in_range};
@@ -9,14 +11,14 @@ use hammer::Hammer;
 use little_endian::{byte_at, f64_at, u16_at, u32_at};
 
 #[repr(C)]
-#[derive(Drop)]
+#[derive(Clone, Copy)]
 pub struct Damper {
     pub rho: f64,
     pub ramp_s: f64,
 }
 
 #[repr(C)]
-#[derive(Drop)]
+#[derive(Clone, Copy)]
 pub struct Common {
     pub fs: f64,
     pub z: f64,
@@ -27,7 +29,7 @@ pub struct Common {
 
 // A key; `strings` is how many strings it has.
 #[repr(C)]
-#[derive(Drop)]
+#[derive(Clone, Copy)]
 pub struct KeyDesign {
     pub key: u8,
     pub has_damper: bool,
@@ -40,7 +42,7 @@ pub struct KeyDesign {
 
 // A string's loop; `phi` stands for the delay of its filters.
 #[repr(C)]
-#[derive(Drop)]
+#[derive(Clone, Copy)]
 pub struct LoopDesign {
     pub n: usize,
     pub ap_count: usize,

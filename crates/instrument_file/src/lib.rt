@@ -1,4 +1,6 @@
 // Document 01, "Instrument file" and refusals 1 to 6: reading a file.
+#![tactic(auto)]
+
 ghost use Rattle.std.specs.Prelude.{◌≡◌, true, ◌+◌, ◌-◌, ◌≤◌, ◌<◌};
 ghost use Rattle.std.proofs.lemmas.List.Edits.{sets};
 ghost use Rattle.counting.specs.Below.{all_below, tabulate, pad};
@@ -16,7 +18,7 @@ use instrument_fields::{
 use little_endian::{byte_at, part, u32_at};
 
 // The refusal's number and an instrument of zeros, or 0 and what the file gives.
-#[derive(Drop)]
+#[derive(Clone, Copy)]
 pub struct ReadAnswer {
     pub refusal: u32,
     pub instrument: Instrument,

@@ -1,4 +1,6 @@
 // An instrument from a file that a person names, for programs. What cannot be opened or read is named on standard error; a refused file answers its number.
+#![tactic(auto)]
+
 use file_status::FileStatus;
 use instrument::Instrument;
 use little_endian::{part, u32_at};
@@ -9,7 +11,7 @@ use program::{input, kind, output, streams};
 use std::num::wrapping_add_u64;
 
 // An instrument where `status` is DONE.
-#[derive(Drop)]
+#[derive(Clone, Copy)]
 pub struct Loaded {
     pub status: u8,
     pub instrument: Instrument,
@@ -51,7 +53,7 @@ pub fn accept(program: &[u8], path: &[u8], bytes: &[u8], file: FileStatus) -> Lo
 // ---- files that are longer than any instrument's
 
 // Whether the pairs so far chain, and where the last of them ends.
-#[derive(Drop)]
+#[derive(Clone, Copy)]
 struct Chain {
     holds: bool,
     end: u64,

@@ -1,5 +1,7 @@
 // Document 02, W4, "Saving an instrument": the writer of document 01's instrument file. Reading what it wrote gives the same record, and writing what was read from an accepted file
 // gives the same bytes (specs/Saving.antt).
+#![tactic(auto)]
+
 ghost use Rattle.std.specs.Prelude.{◌≡◌, true, cond, ◌++◌, suc, ◌+◌, ◌*◌, ◌≤◌, ◌<◌, length};
 ghost use Rattle.std.proofs.lemmas.List.Edits.{sets};
 ghost use Rattle.counting.specs.Below.{gather};
@@ -19,7 +21,7 @@ pub const LONGEST_FILE: usize = 2200;
 
 // The refusal's number, 0 for none; how many bytes the file has, 0 where it is refused.
 #[repr(C)]
-#[derive(Drop)]
+#[derive(Clone, Copy)]
 pub struct WriteAnswer {
     pub refusal: u32,
     pub length: usize,

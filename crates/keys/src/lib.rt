@@ -1,4 +1,6 @@
 // The keys: their dampers' moves, and the speeds at the bridge that their strings' sums give.
+#![tactic(auto)]
+
 ghost use Rattle.std.specs.Prelude.{◌≡◌, ◌≤◌, ◌<◌, false, length, get_or};
 ghost use Rattle.string.specs.Table.{table_strings};
 ghost use Rattle.strings.specs.Strings.{AllFit};
@@ -7,7 +9,7 @@ ghost use Rattle.keys.specs.Keys.{constants_at, ConstantsPut, keys_of, damped_of
 use float::clamp;
 
 // A key's numbers: its weight, the damper's full resistance and its step a sample, and 1 + yz n for its n strings.
-#[derive(Drop)]
+#[derive(Clone, Copy)]
 pub struct KeyConstants {
     pub weight: f64,
     pub r_max: f64,

@@ -1,4 +1,6 @@
 // The two points of a string where something touches it: the hammer's, whose force is solved for string by string, and the damper's.
+#![tactic(auto)]
+
 ghost use Rattle.std.specs.Prelude.{◌≡◌, length};
 ghost use Rattle.string.specs.String.{Strung, IndicesAt, reads_of};
 ghost use Rattle.points.specs.Points.{remembered, touched, contact_of, contact_at, damped_by, turned, summed};
@@ -9,7 +11,7 @@ use power::power;
 use string::{Indices, Reads, StringDesign};
 
 // What the rules compute from the instrument's numbers before the first sample; two_z is 2 z.
-#[derive(Drop)]
+#[derive(Clone, Copy)]
 pub struct Constants {
     pub dt: f64,
     pub z: f64,
@@ -19,7 +21,7 @@ pub struct Constants {
 }
 
 // The Rust's `Option<HammerState>`.
-#[derive(Drop)]
+#[derive(Clone, Copy)]
 pub enum HammerState {
     Resting,
     Flying {
@@ -30,14 +32,14 @@ pub enum HammerState {
 }
 
 // A contact's force, and the felt's memory after it.
-#[derive(Drop)]
+#[derive(Clone, Copy)]
 pub struct Contact {
     pub force: f64,
     pub memory: f64,
 }
 
 // The contacts of a sample, summed over the strings.
-#[derive(Drop)]
+#[derive(Clone, Copy)]
 pub struct ForceSum {
     pub force_sum: f64,
     pub any_contact: bool,

@@ -1,4 +1,6 @@
 // The felt's power law in halves and in quarters, in the place of the Rust's `powf`.
+#![tactic(auto)]
+
 ghost use Rattle.std.specs.Prelude.{◌≡◌, ◌<◌};
 ghost use Rattle.power.specs.Power.{quarters_above, power_of, quarters_of};
 

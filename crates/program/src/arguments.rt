@@ -16,7 +16,7 @@ pub const REFUSED: u8 = 2;
 const STATUS: i32 = 3;
 
 // The arguments are `count`, from argument `first` on.
-#[derive(Drop)]
+#[derive(Clone, Copy)]
 pub struct Arguments {
     pub first: usize,
     pub count: usize,

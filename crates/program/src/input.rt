@@ -5,7 +5,7 @@ use file_status::{FileStatus, status_at, status_of};
 use std::num::wrapping_add_usize;
 
 // A file that is open for reading; `fd` is below 0 where there is none, and then it has been said.
-#[derive(Drop)]
+#[derive(Clone, Copy)]
 pub struct Input {
     pub fd: i32,
     pub file: FileStatus,
@@ -37,7 +37,7 @@ pub fn open(program: &[u8], path: &[u8]) -> Input {
 }
 
 // How many bytes stand at the start of the lent ones; not all of the file's where it has more. `error` is the system's number where a read failed.
-#[derive(Drop)]
+#[derive(Clone, Copy)]
 pub struct Bytes {
     pub count: usize,
     pub error: i32,

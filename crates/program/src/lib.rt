@@ -1,4 +1,6 @@
 // What the programs share: their arguments and standard streams, what they say of a failure, the files that they read and write, and the status that their shell commands end with.
+#![tactic(auto)]
+
 pub mod arguments;
 pub mod floats;
 pub mod input;

@@ -7,7 +7,7 @@ use std::num::wrapping_add_usize;
 use text::lines::row;
 
 // The files that an output may not be: two inputs, and where answers and messages go.
-#[derive(Drop)]
+#[derive(Clone, Copy)]
 pub struct InUse {
     pub first: FileStatus,
     pub second: FileStatus,
@@ -80,7 +80,7 @@ pub fn is_apart(program: &[u8], path: &[u8], used: InUse, rows: &[u8]) -> bool {
 }
 
 // A file that is open for writing; `fd` is below 0 where there is none, and then it has been said.
-#[derive(Drop)]
+#[derive(Clone, Copy)]
 pub struct Output {
     pub fd: i32,
     pub is_made: bool,
@@ -145,7 +145,7 @@ pub fn cut(out: Output, size: i64) -> bool {
 }
 
 // How many bytes went out, and the system's number for the error where not all did.
-#[derive(Drop)]
+#[derive(Clone, Copy)]
 pub struct Written {
     pub count: usize,
     pub error: i32,

@@ -55,7 +55,7 @@ const NAMES: u64 = 1000;
 const LONGEST_PATH: usize = PATH_MAX - 1;
 
 // The file that was made, and the length of its path. `fd` is below 0 where none could be made, and the length 0 where no name was free.
-#[derive(Drop)]
+#[derive(Clone, Copy)]
 struct Beside {
     fd: i32,
     length: usize,

@@ -5,7 +5,7 @@ use crate::output::Output;
 use std::num::wrapping_add_u64;
 
 // `error` is the system's number once a write has failed; nothing is written behind it.
-#[derive(Drop)]
+#[derive(Clone, Copy)]
 pub struct Wave {
     pub out: Output,
     pub rate: u64,

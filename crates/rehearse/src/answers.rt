@@ -4,7 +4,7 @@ use little_endian::part;
 use program::output;
 
 // Of the buffer the first `held` bytes wait to be written. `error` is the system's number once a write has failed; nothing is written behind it.
-#[derive(Drop)]
+#[derive(Clone, Copy)]
 pub struct Answers {
     pub held: usize,
     pub error: i32,

@@ -1,5 +1,7 @@
 // `rehearse [INSTRUMENT SCRIPT OUT.wav [FORCES]]`: plays a script's calls on an instrument, answers each by a line, and writes what was played. All that matters is in the
 // library; this holds the memory that it lends, and the files.
+#![tactic(auto)]
+
 mod answers;
 mod places;
 mod progress;

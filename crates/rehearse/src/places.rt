@@ -26,7 +26,7 @@ pub fn open_script(path: &[u8]) -> Input {
 }
 
 // The forces are written where anybody asked for them.
-#[derive(Drop)]
+#[derive(Clone, Copy)]
 pub struct Places {
     pub wave: Output,
     pub forces: Output,

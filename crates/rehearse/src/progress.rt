@@ -9,7 +9,7 @@ use text::lines::{Found, Line, Reader};
 use text::script::Command;
 
 // Whether the rehearsal goes on, and else how it ended: at the script's end, or with the system's number where a read or a write failed.
-#[derive(Drop)]
+#[derive(Clone, Copy)]
 pub enum Ending {
     GoesOn,
     Finished,
@@ -20,7 +20,7 @@ pub enum Ending {
 }
 
 // `line` is the number of the script's line that comes next, `due` the time of the next sign of life. Where the script is shown, its lines stand before their answers.
-#[derive(Drop)]
+#[derive(Clone, Copy)]
 pub struct Progress {
     pub reader: Reader,
     pub is_shown: bool,
@@ -147,7 +147,7 @@ fn show(p: Progress, text: &[u8], buffer: &mut [u8]) -> Progress {
 }
 
 // The script's next line, if the rehearsal goes on.
-#[derive(Drop)]
+#[derive(Clone, Copy)]
 pub struct Asked {
     pub progress: Progress,
     pub command: Command,

@@ -16,7 +16,7 @@ use text::script::{Command, Fault, Kind};
 const PART: u64 = 8192;
 
 // What a line has come to, and what is left of it.
-#[derive(Drop)]
+#[derive(Clone, Copy)]
 pub struct Rehearsal {
     pub console: Console,
     pub progress: Progress,

@@ -1,4 +1,6 @@
 // The render of a score: one loop over samples for playing, with output and trace, and for going on without.
+#![tactic(auto)]
+
 ghost use Rattle.std.specs.Prelude.{◌≡◌, ℕ, ◌+◌, ◌≤◌, ◌<◌, ◌^◌, length, set, replicate};
 ghost use Rattle.float.specs.Float.{zero};
 ghost use Rattle.std.proofs.lemmas.List.Edits.{sets};
@@ -14,7 +16,7 @@ use sample::{Motion, Setup};
 use score::{Piano, Score};
 
 // A run in progress: the piano, how many samples are done, and how many forces were pushed.
-#[derive(Drop)]
+#[derive(Clone, Copy)]
 pub struct Run {
     pub piano: Piano,
     pub done: u64,
@@ -23,7 +25,7 @@ pub struct Run {
 
 // Samples with no event behind the first: the numbers they are computed with, which dampers are to be down, the run that
 // they go on from, and how many samples are done where they stop. Sample 0 of the run is at position t.
-#[derive(Drop)]
+#[derive(Clone, Copy)]
 pub struct Stretch {
     pub setup: Setup,
     pub down: [bool; 16],

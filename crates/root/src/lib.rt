@@ -1,5 +1,7 @@
 // IEEE 754's squareRoot on f64, rounded once. A guess by Newton's steps is checked by one exact square,
 // which also tells the right neighbour; only where both miss are the digits found one by one.
+#![tactic(auto)]
+
 ghost use Rattle.std.specs.Prelude.{◌≡◌, ◌+◌, ◌*◌, ◌^◌, ◌<◌, true, from_bits};
 ghost use Rattle.std.specs.Float.{binary64};
 ghost use Rattle.root.specs.Law.{SquareRoot};
@@ -30,7 +32,7 @@ fn nearest_root(c: u64) -> u64
 }
 
 // hi * 2^64 + lo.
-#[derive(Drop)]
+#[derive(Clone, Copy)]
 struct Wide {
     hi: u64,
     lo: u64,
@@ -147,7 +149,7 @@ fn guess(c: u64) -> u64
 }
 
 // m * 2^g.
-#[derive(Drop)]
+#[derive(Clone, Copy)]
 struct Shifted {
     m: u64,
     g: u64,

@@ -1,5 +1,7 @@
 // The loop filters of all strings. The dispersion rows of up to four strings go together, a stage of each at a turn: a stage waits
 // for the one before it in its own row alone, so the processor works on four at once.
+#![tactic(auto)]
+
 ghost use Rattle.std.specs.Prelude.{◌≡◌, ◌++◌, ◌+◌, ◌*◌, ◌^◌, ◌≤◌, ◌<◌, length, drop};
 ghost use Rattle.string.specs.Table.{design_at, table_strings};
 ghost use Rattle.strings.specs.Strings.{AllFit, Indexed, cells_of, filtered_all, v_ins};
@@ -7,7 +9,7 @@ ghost use Rattle.rows.specs.Rows.{string_start, Few, Laid, Started, Staged, InRo
 
 // Of a few strings that go through their rows together: where each row starts among the part's cells, its coefficient, and
 // how many stages all of them have.
-#[derive(Drop)]
+#[derive(Clone, Copy)]
 pub struct Rows {
     pub starts: [usize; 4],
     pub ap_a: [f64; 4],
@@ -207,7 +209,7 @@ fn filter_one(
 }
 
 // Where a walk over the strings stands: the next string, and the cell where its cells start.
-#[derive(Drop)]
+#[derive(Clone, Copy)]
 pub struct Next {
     pub at: usize,
     pub i: usize,

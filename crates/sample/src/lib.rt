@@ -1,4 +1,6 @@
 // One sample, from the dampers' move to the bridge; the events come before it.
+#![tactic(auto)]
+
 ghost use Rattle.std.specs.Prelude.{◌≡◌, false, get_or};
 ghost use Rattle.strings.specs.Strings.{Indexed};
 ghost use Rattle.sample.specs.Sample.{Ready, Bridged, CanCount, model_at, sampled, step_of, hammer_after, moved, pushed_by, counted_for};
@@ -7,14 +9,14 @@ use float::max;
 use points::{Constants, ForceSum, HammerState};
 
 // The hammer, if one flies, and the greatest force that it met.
-#[derive(Drop)]
+#[derive(Clone, Copy)]
 pub struct Motion {
     pub hammer: HammerState,
     pub peak_force: f64,
 }
 
 // The numbers of an instrument that are no table, with how many keys and strings it has.
-#[derive(Drop)]
+#[derive(Clone, Copy)]
 pub struct Setup {
     pub constants: Constants,
     pub keys: usize,
@@ -22,7 +24,7 @@ pub struct Setup {
 }
 
 // What a sample gives: the hammer after it, the output, the force that it pushes, if a hammer flew, and whether that hammer was in contact.
-#[derive(Drop)]
+#[derive(Clone, Copy)]
 pub struct Sampled {
     pub motion: Motion,
     pub out: f64,

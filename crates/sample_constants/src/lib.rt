@@ -1,4 +1,6 @@
 // What the samples are computed with, from an instrument's record: the constants, and the tables of its strings and keys, filled once a call.
+#![tactic(auto)]
+
 ghost use Rattle.std.specs.Prelude.{◌≡◌, ◌≤◌, slice_index};
 ghost use Rattle.sample_constants.specs.Model.{constants_of, setup_of, key_constants, string_of, owner_of, Counted, StringsFilled, KeysFilled};
 
@@ -12,7 +14,7 @@ use points::Constants;
 use sample::Setup;
 use string::StringDesign;
 
-#[derive(Drop)]
+#[derive(Clone, Copy)]
 pub struct StringTables {
     pub lengths: [usize; 160],
     pub coefficients: [f64; 128],

@@ -1,4 +1,6 @@
 // The score's events and what each does to the piano, and which of them act on a sample.
+#![tactic(auto)]
+
 ghost use Rattle.std.specs.Prelude.{◌≡◌, false, ℕ, ◌≤◌, ◌<◌, length, get_or};
 ghost use Rattle.string.specs.String.{size_of};
 ghost use Rattle.string.specs.Table.{table_strings};
@@ -12,7 +14,7 @@ use points::HammerState;
 use sample::Motion;
 use string::StringDesign;
 
-#[derive(Drop)]
+#[derive(Clone, Copy)]
 pub enum Event {
     NoteOn { key: u8, velocity: f64 },
     NoteOff { key: u8 },
@@ -20,21 +22,21 @@ pub enum Event {
     HandDamp { key: u8 },
 }
 
-#[derive(Drop)]
+#[derive(Clone, Copy)]
 pub struct TimedEvent {
     pub position: u64,
     pub event: Event,
 }
 
 // The first `count` events, in their order.
-#[derive(Drop)]
+#[derive(Clone, Copy)]
 pub struct Score {
     pub events: [TimedEvent; 64],
     pub count: usize,
 }
 
 // All of the piano's state that is not in its cells.
-#[derive(Drop)]
+#[derive(Clone, Copy)]
 pub struct Piano {
     pub held: [bool; 16],
     pub hand_damped: [bool; 16],
@@ -45,7 +47,7 @@ pub struct Piano {
 }
 
 // The contact samples of an instrument's keys, added up: whether they are at most a limit, and where they are, their sum.
-#[derive(Drop)]
+#[derive(Clone, Copy)]
 pub struct Total {
     pub within: bool,
     pub sum: u64,

@@ -1,4 +1,6 @@
 // Document 01, "The session": a score is the first `count` of 64 timed events. Where insert puts an event, what remove leaves, and the score's part of refusal 7.
+#![tactic(auto)]
+
 ghost use Rattle.std.specs.Prelude.{◌≡◌, ◌++◌, ◌+◌, ◌-◌, ◌≤◌, ◌<◌, take, drop};
 ghost use Rattle.score_edits.specs.Edits.{rank_of, may_precede, sound_velocity, sound_event, sound_score, place_of, placed, removed};
 

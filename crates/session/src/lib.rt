@@ -1,5 +1,7 @@
 // Document 01, "The session": open, play, cue, go, insert and remove, over the renderer by its promise alone. Each gets the instrument and the session by value, tests the
 // refusals that concern it, and gives the session back; a refused call gives back what it got and changes no cell.
+#![tactic(auto)]
+
 ghost use Rattle.std.specs.Prelude.{◌≡◌, true, ◌*◌, ◌≤◌, length};
 ghost use Rattle.instrument.specs.Valid.{valid};
 ghost use Rattle.instrument.specs.Work.{part_cells};
@@ -12,7 +14,7 @@ use session_cues::Cue;
 use session_record::Session;
 
 // "accepted, or the refusal's number; play's k; go's number; an edit's t and number dropped"; beside k the contact samples of all keys at the new position
-#[derive(Drop)]
+#[derive(Clone, Copy)]
 pub enum Answer {
     Refused(u64),
     Opened,
@@ -22,7 +24,7 @@ pub enum Answer {
     Edited { t: u64, dropped: u64 },
 }
 
-#[derive(Drop)]
+#[derive(Clone, Copy)]
 pub struct Outcome {
     pub answer: Answer,
     pub session: Session,

@@ -1,5 +1,7 @@
 // Document 01, "The session": "a set of at most four cue positions", each with the small state held for it. Slot i keeps its cells in part i + 1 of work memory, so that no part
 // is numbered in the record.
+#![tactic(auto)]
+
 ghost use Rattle.std.specs.Prelude.{◌≡◌, map, ◌+◌, ◌≤◌, length, drop};
 ghost use Rattle.score.specs.Contacts.{hammer_on};
 ghost use Rattle.positions.specs.Positions.{up_to, greatest, above};
@@ -9,7 +11,7 @@ use points::HammerState;
 use score::Piano;
 use score_edits::END;
 
-#[derive(Drop)]
+#[derive(Clone, Copy)]
 pub struct Cue {
     pub kept: bool,
     pub position: u64,

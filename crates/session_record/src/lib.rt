@@ -1,4 +1,6 @@
 // Document 01, "Numbers a call may give": the session's record, its test in refusal 7, and for each call the refusals that concern it, in their order.
+#![tactic(auto)]
+
 ghost use Rattle.std.specs.Prelude.{◌≡◌, true, ◌+◌, ◌≤◌, length};
 ghost use Rattle.instrument.specs.Valid.{valid};
 ghost use Rattle.instrument.specs.Work.{part_cells};
@@ -14,7 +16,7 @@ use score_edits::END;
 use session_cues::Cue;
 
 // The score is the first `count` events. What lies past it, and in slots that keep no cue, decides nothing.
-#[derive(Drop)]
+#[derive(Clone, Copy)]
 pub struct Session {
     pub t: u64,
     pub count: usize,

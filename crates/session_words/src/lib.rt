@@ -1,5 +1,7 @@
 // The session's record as 616 words in a lent slice, so that it can cross to C and Rust. What is written is read back, and words
 // that count and have no meaning are told.
+#![tactic(auto)]
+
 mod cue;
 mod event;
 mod layout;
@@ -23,7 +25,7 @@ use word::{put_word, word_at};
 pub const LENGTH: usize = SESSION_SIZE;
 
 // Whether the words are a session's, and the session.
-#[derive(Drop)]
+#[derive(Clone, Copy)]
 pub struct Read {
     pub is_session: bool,
     pub session: Session,

@@ -1,4 +1,6 @@
 // One string on its own part of the work memory: its six delay lines, its loop filter and its bridge end; and the table of all strings' designs.
+#![tactic(auto)]
+
 ghost use Rattle.std.specs.Prelude.{◌≡◌, ◌+◌, ◌*◌, ◌%◌, ◌≤◌, ◌<◌, ◌^◌, length};
 ghost use Rattle.cells.specs.Line.{line_read, line_write};
 ghost use Rattle.string.specs.String.{at_bR, at_bL, at_cR, at_cL, at_filter, at_yS, at_memory, size_of, HasLines, Strung, IndicesAt};
@@ -9,7 +11,7 @@ ghost use Rattle.string.specs.Table.{design_at, DesignPut, indices_in, put_indic
 use filter::LoopFilter;
 
 // The three cuts, the number of dispersion stages, the index of the string's key, and the filter's coefficients.
-#[derive(Drop)]
+#[derive(Clone, Copy)]
 pub struct StringDesign {
     pub na: usize,
     pub nb: usize,
@@ -20,7 +22,7 @@ pub struct StringDesign {
 }
 
 // The Rust's `idx` of a string's lines: one for the two lines of each cut, since every line is written once a sample.
-#[derive(Drop)]
+#[derive(Clone, Copy)]
 pub struct Indices {
     pub a: usize,
     pub b: usize,
@@ -28,7 +30,7 @@ pub struct Indices {
 }
 
 // What a sample reads of a string's lines besides the loop filter's input.
-#[derive(Drop)]
+#[derive(Clone, Copy)]
 pub struct Reads {
     pub a: f64,
     pub b: f64,

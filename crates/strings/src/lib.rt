@@ -1,4 +1,6 @@
 // The passes of one sample over all strings: each takes the strings' parts one after the other, and lends each string its own.
+#![tactic(auto)]
+
 ghost use Rattle.std.specs.Prelude.{◌≡◌, ◌+◌, ◌≤◌, length};
 ghost use Rattle.string.specs.Table.{table_strings};
 ghost use Rattle.strings.specs.Strings.{AllFit, Indexed, cells_of, turned_all, force_all, no_force, bridge_all, bridge_force};

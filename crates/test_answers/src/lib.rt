@@ -1,17 +1,19 @@
 // Answers of the Rust as a file keeps them: a line is a kind's name, then words of sixteen hexadecimal digits, a space
 // before each. Whatever else stands there is unreadable. Both zeros and all NaNs count alike.
+#![tactic(auto)]
+
 ghost use Rattle.std.specs.Prelude.{◌≡◌, ◌≤◌, length};
 
 use little_endian::{bits_of, float_of};
 use text::{Number, hexadecimal_of};
 
-#[derive(Drop)]
+#[derive(Clone, Copy)]
 pub enum Word {
     Of(u64),
     Not,
 }
 
-#[derive(Drop)]
+#[derive(Clone, Copy)]
 pub enum Words {
     Count(usize),
     Unreadable,

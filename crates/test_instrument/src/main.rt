@@ -1,5 +1,7 @@
 // Reads each file that its arguments name as document 01's instrument file, and writes a line for it: what was read, with S and W, or the refusal's number and words. An accepted file is written
 // again from its record, and every byte compared; then into one byte fewer than it has, and from a record with a spoiled place: each is refused, and no byte may change.
+#![tactic(auto)]
+
 use instrument::{Instrument, is_valid, part_cells, work_cells};
 use libc::STDOUT_FILENO;
 

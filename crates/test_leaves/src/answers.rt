@@ -11,7 +11,7 @@ use test_answers::{alike, all_alike, load, same_bits};
 // exponent out of a damaged file is not to use up the stack.
 const LARGEST_EXPONENT: u64 = 4096;
 
-#[derive(Drop)]
+#[derive(Clone, Copy)]
 pub enum Verdict {
     Same,
     Differs,

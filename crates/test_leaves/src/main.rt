@@ -1,5 +1,7 @@
 // Replays answers of the Rust that `compare/leaves` stored, with no Rust at hand: it reads them,
 // asks the leaves the same, and counts by kind what differs. A line that it cannot read counts too.
+#![tactic(auto)]
+
 mod answers;
 mod decimated;
 

@@ -91,7 +91,7 @@ fn call(
 }
 
 // The memory that a call is lent, by its digests.
-#[derive(Drop)]
+#[derive(Clone, Copy)]
 struct Memory {
     work: u64,
     scratch: u64,

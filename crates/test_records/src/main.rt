@@ -1,6 +1,8 @@
 // Records that no list of calls reaches, handed to every call: those that refusal 7 has to catch, those that lie far on,
 // and those that differ from a right one only where nothing may be decided. The rows of stdin say what each record is;
 // each line of stdout has the number that each call gives, 0 where it is accepted, and whether a refused call changed a cell.
+#![tactic(auto)]
+
 mod calls;
 mod record;
 mod row;

@@ -6,7 +6,7 @@ use std::num::wrapping_add_usize;
 use text::Number;
 
 // Where the next word is stored and where the next is copied from; whether all could be read so far.
-#[derive(Drop)]
+#[derive(Clone, Copy)]
 struct Cursor {
     to: usize,
     from: usize,

@@ -26,7 +26,7 @@ const HEAD: usize = 44;
 const LAST: u64 = 0x7fff_ffff_ffff_ffff;
 
 // A render in progress, at position t.
-#[derive(Drop)]
+#[derive(Clone, Copy)]
 pub struct Render {
     pub instrument: Instrument,
     pub score: Score,
@@ -34,7 +34,7 @@ pub struct Render {
     pub t: u64,
 }
 
-#[derive(Drop)]
+#[derive(Clone, Copy)]
 pub enum Verdict {
     Same,
     Differs,
@@ -42,7 +42,7 @@ pub enum Verdict {
 }
 
 // A block's verdict, and the piano after it.
-#[derive(Drop)]
+#[derive(Clone, Copy)]
 pub struct Judged {
     pub verdict: Verdict,
     pub piano: Piano,

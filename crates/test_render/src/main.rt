@@ -1,5 +1,7 @@
 // Replays renders of the Rust that `compare/render` stored, with no Rust at hand: instruments, scores and blocks are
 // read, rendered by the proved renderer, and each block's samples, forces and state held to the Rust's.
+#![tactic(auto)]
+
 mod block;
 mod state;
 
@@ -137,7 +139,7 @@ fn with_block(
 }
 
 // What a line of n words tells of.
-#[derive(Drop)]
+#[derive(Clone, Copy)]
 enum Kind {
     Instrument,
     Event,

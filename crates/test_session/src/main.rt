@@ -1,5 +1,7 @@
 // Replays lists of calls that `compare/session` stored, with no Rust at hand: each line of a script is called again, and its answer, samples and forces are held to those
 // that the plain machine over the Rust gave. A line that cannot be read counts too.
+#![tactic(auto)]
+
 mod reading;
 mod sums;
 
@@ -12,7 +14,7 @@ use std::num::wrapping_add_u64;
 use text::lines::{Found, Reader};
 use text::{lines, put_refusal};
 
-#[derive(Drop)]
+#[derive(Clone, Copy)]
 struct Tally {
     lists: u64,
     answers: u64,
@@ -23,7 +25,7 @@ struct Tally {
 }
 
 // The list that is replayed: `line` numbers the script's next line, and the last answer has `length` bytes of text, `samples` samples and `forces` forces.
-#[derive(Drop)]
+#[derive(Clone, Copy)]
 struct Replay {
     instrument: Instrument,
     console: Console,
@@ -163,7 +165,7 @@ fn judge(tally: Tally, line: &[u8], text: &[u8], out: &[f64], trace: &[f64]) -> 
 
 // ---- the stored lines
 
-#[derive(Drop)]
+#[derive(Clone, Copy)]
 struct State {
     replay: Replay,
     tally: Tally,
@@ -211,7 +213,7 @@ fn is_over(found: Found) -> bool {
     }
 }
 
-#[derive(Drop)]
+#[derive(Clone, Copy)]
 struct Read {
     state: State,
     reader: Reader,

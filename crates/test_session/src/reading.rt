@@ -3,7 +3,7 @@ use check::same;
 use little_endian::part;
 use text::Number;
 
-#[derive(Drop)]
+#[derive(Clone, Copy)]
 pub enum Record {
     Instrument,
     Line,

@@ -1,4 +1,6 @@
 // Text in bytes, for programs: the lines of a file, their words and numbers, a script's lines as commands, and text put into lent bytes. Every function takes any bytes.
+#![tactic(auto)]
+
 pub mod lines;
 mod number;
 mod refusal;

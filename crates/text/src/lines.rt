@@ -6,7 +6,7 @@ use std::num::{wrapping_add_usize, wrapping_sub_usize};
 
 // Of the buffer the bytes from start up to end are read and not given out yet. A line that the buffer does not hold is dropped up to its end: `is_long`, and `is_remark`
 // where it begins with #.
-#[derive(Drop)]
+#[derive(Clone, Copy)]
 pub struct Reader {
     pub fd: i32,
     pub start: usize,
@@ -17,7 +17,7 @@ pub struct Reader {
     pub is_remark: bool,
 }
 
-#[derive(Drop)]
+#[derive(Clone, Copy)]
 pub enum Found {
     Line,
     Remark,
@@ -27,7 +27,7 @@ pub enum Found {
 }
 
 // A line from start up to end, and the reader behind it.
-#[derive(Drop)]
+#[derive(Clone, Copy)]
 pub struct Line {
     pub found: Found,
     pub start: usize,

@@ -4,7 +4,7 @@ ghost use Rattle.std.specs.Prelude.{◌≡◌, ◌≤◌};
 use little_endian::{byte_at, float_of, part};
 
 // A number of up to 64 bits; digits alone that are more; or no number.
-#[derive(Drop)]
+#[derive(Clone, Copy)]
 pub enum Number {
     Value(u64),
     TooLarge,
@@ -12,7 +12,7 @@ pub enum Number {
 }
 
 // Any float, or no number.
-#[derive(Drop)]
+#[derive(Clone, Copy)]
 pub enum Real {
     Value(f64),
     None,
@@ -37,7 +37,7 @@ fn digit(b: u8) -> u64
 }
 
 // What the digits gave so far, and whether they fit into 64 bits.
-#[derive(Drop)]
+#[derive(Clone, Copy)]
 struct Digits {
     n: u64,
     fits: bool,
@@ -116,7 +116,7 @@ fn ten_to(n: u32) -> f64 {
 
 // What the bytes of a decimal gave so far: their digits as one number, how many, how many of them
 // behind the point, and whether the bytes are a decimal so far.
-#[derive(Drop)]
+#[derive(Clone, Copy)]
 struct Decimal {
     n: u64,
     count: u32,

@@ -6,7 +6,7 @@ use little_endian::byte_at;
 
 // What a line asks for, with its numbers beside it where it has any. A bad line says what it lacks; the last three
 // faults are for those to give that know how long a line, a buffer or a file may be.
-#[derive(Drop)]
+#[derive(Clone, Copy)]
 pub enum Kind {
     Blank,
     Play,
@@ -25,7 +25,7 @@ pub enum Kind {
     Bad(Fault),
 }
 
-#[derive(Drop)]
+#[derive(Clone, Copy)]
 pub enum Fault {
     UnknownCommand,
     ByteOrderMark,
@@ -43,7 +43,7 @@ pub enum Fault {
 }
 
 // `number` is a count, a position or an index; an event's key, velocity and direction follow it.
-#[derive(Drop)]
+#[derive(Clone, Copy)]
 pub struct Command {
     pub kind: Kind,
     pub number: u64,

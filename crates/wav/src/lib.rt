@@ -1,4 +1,6 @@
 // Mono WAV files of 64-bit floats: format 3, with the chunk `fact` that the format asks for.
+#![tactic(auto)]
+
 ghost use Rattle.std.specs.Prelude.{◌≤◌, length};
 
 use little_endian::{f64_at, put_f64, put_u8, put_u16, put_u32, u16_at, u32_at};
@@ -83,7 +85,7 @@ pub fn is_wave(b: &[u8]) -> bool {
     (u32_at(b, 0) == RIFF) & (u32_at(b, 8) == WAVE)
 }
 
-#[derive(Drop)]
+#[derive(Clone, Copy)]
 pub enum Chunk {
     Format,
     Data,
@@ -107,7 +109,7 @@ pub fn chunk_size(b: &[u8]) -> u32 {
 }
 
 // What the chunk `fmt ` says: of its bytes the first 16.
-#[derive(Drop)]
+#[derive(Clone, Copy)]
 pub struct Format {
     pub tag: u16,
     pub channels: u16,

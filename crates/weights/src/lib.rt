@@ -1,5 +1,7 @@
 // Document 02, W4: "Technicians adjust weights and pass the instrument to the next house." The weights of a record's keys, set by the keys' numbers. No weight is tested here: whether
 // the record is still one that a file gives is the writer's question.
+#![tactic(auto)]
+
 ghost use Rattle.std.specs.Prelude.{◌≡◌};
 ghost use Rattle.weights.specs.Weights.{has_key, key_weighted, weighted, weighted_by, whole_pairs};
 
@@ -7,7 +9,7 @@ use instrument::{Instrument, key_index};
 use instrument_fields::KeyDesign;
 
 // Whether there are as many weights as keys and the instrument has every key; and the instrument with them.
-#[derive(Drop)]
+#[derive(Clone, Copy)]
 pub struct Adjusted {
     pub is_whole: bool,
     pub instrument: Instrument,

@@ -1,1 +1,2 @@
 // Document 01's bench rows that hold by proof; no code.
+#![tactic(auto)]
