@@ -99,10 +99,7 @@ fn adjust_file(rt: &impl System, given: Arguments) -> u8 {
 
 fn run(rt: &impl System, given: Arguments) -> u8 {
     if (given.count < 2) | (given.count % 2 != 0) {
-        tell(
-            rt,
-            b"usage: adjust INSTRUMENT OUT [KEY WEIGHT]..\n",
-        );
+        tell(rt, b"usage: adjust INSTRUMENT OUT [KEY WEIGHT]..\n");
         return WRONG;
     }
     adjust_file(rt, given)

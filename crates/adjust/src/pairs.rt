@@ -209,7 +209,13 @@ fn put_weight_refusal(
 }
 
 // The writer's refusal, and which weight it is due to: the record test itself tells, asked with each pair alone.
-pub fn refuse(rt: &impl System, given: Arguments, instrument: Instrument, path: &[u8], refusal: u32) {
+pub fn refuse(
+    rt: &impl System,
+    given: Arguments,
+    instrument: Instrument,
+    path: &[u8],
+    refusal: u32,
+) {
     let i = first_refused(rt, given, instrument);
     if i == pair_count(given) {
         instrument_input::answer_refusal(rt, b"adjust", path, refusal);

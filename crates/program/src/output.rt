@@ -2,9 +2,7 @@
 use crate::kind;
 use crate::message::{DEVICE_FAILED, NOT_OPEN, complain, fail, number_of};
 use crate::system::System;
-use file_status::{
-    FileStatus, Stream, status_at, status_of, status_of_stream, text_of, unknown,
-};
+use file_status::{FileStatus, Stream, status_at, status_of, status_of_stream, text_of, unknown};
 use std::fs::{File, OpenOptions};
 use std::io::Write;
 use std::{fs, io};
