@@ -1,5 +1,5 @@
 -- Each turn reads at least one float of those that are wanted.
-use Rattle.std.proofs.Common.{◌≡◌, ◌-◌, ◌≤◌, ◌×◌, length}
+use Rattle.std.proofs.Common.{◌≡◌, ◌-◌, ◌≤◌, length}
 use Rattle.program.proofs.floats.read_floats.Given as goal
 
 abbrev pub invariant-loop-at : goal.invariant-loop-at
