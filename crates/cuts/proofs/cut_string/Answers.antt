@@ -1,0 +1,29 @@
+-- `cuts::cut_string` meets its contract. Assumes nothing.
+use Rattle.std.proofs.Common.{ℕ, max, ap, ◌∙◌, arith}
+use Rattle.cuts.specs.Cuts.{cuts_of}
+use Rattle.cuts.specs.Laws.{next_fits}
+use Rattle.cuts.proofs.cut_string.Goals as goal
+
+pub overflow_add-na : goal.overflow_add-na
+overflow_add-na c =
+    let end = c.larger.ensures ∙ ap (λ (m : ℕ). max m 1) c.saturating_sub.ensures in
+    record { fits = next_fits c.args.n c.larger.result c.Cell-at.result _ _ (omega arith) end c.Cell-at.ensures }
+
+pub overflow_add-na-2 : goal.overflow_add-na-2
+overflow_add-na-2 c = add-cell-at c
+
+pub returns : goal.returns
+unfolding cuts_of
+returns c =
+    rw (
+      c.larger-3.ensures,
+      c.saturating_sub-4.ensures,
+      c.saturating_sub-3.ensures,
+      c.cell_at-nd.ensures,
+      c.larger-2.ensures,
+      c.saturating_sub-2.ensures,
+      c.Cell-at.ensures,
+      c.larger.ensures,
+      c.saturating_sub.ensures,
+      c.half_of-half.ensures,
+    )

@@ -1,0 +1,14 @@
+-- What is done below i and what the row as it stands gives from i on is the whole run (`Ran`); each turn leaves fewer inputs. Assumes nothing.
+use Rattle.std.proofs.Common.{◌-◌, rules}
+use Rattle.exports.proofs.Runs.{ran_start, ran_turn, ran_end}
+use Rattle.exports.proofs.leaves.leaf_row_run.Goals as goal
+
+pub loop-i-init : goal.loop-i-init
+loop-i-init c = ran_start _ _
+
+pub loop-i-preserved : goal.loop-i-preserved
+loop-i-preserved c =
+    ran_turn c.loop-i.invariant c.loop-i-test.true (search rules) c.dispersion.ensures.0 c.dispersion.ensures.1
+
+pub returns : goal.returns
+returns c = ran_end c.loop-i.invariant c.loop-i-test.false

@@ -1,0 +1,16 @@
+-- The invariant: `all` says whether the keys before i are in range. Start, turn and end are counting's laws of Tested.
+use Rattle.instrument.specs.Valid.{keys_in_range}
+use Prim.Native.Nat.{◌-◌}
+use native.Mathlib.Omega.{arith}
+use Rattle.counting.specs.Laws.{tested_none, tested_next, tested_all}
+use Rattle.instrument.proofs.keys_in_range.Goals as goal
+
+pub loop-i-init : goal.loop-i-init
+loop-i-init c = tested_none
+
+pub loop-i-preserved : goal.loop-i-preserved
+loop-i-preserved c = tested_next c.loop-i.invariant (omega arith) c.key_in_range-all.ensures
+
+pub returns : goal.returns
+unfolding keys_in_range
+returns c = tested_all c.loop-i.invariant c.loop-i-test.false

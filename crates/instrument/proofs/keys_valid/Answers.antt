@@ -1,0 +1,8 @@
+-- The expression is the definition of specs/Valid.antt, test by test: each call answers one by its contract.
+use Rattle.counting.specs.Every.{every, every_after}
+use Rattle.instrument.specs.Valid.{keys_valid}
+use Rattle.instrument.proofs.keys_valid.Goals as goal
+
+pub returns : goal.returns
+unfolding keys_valid every every_after
+returns c = cc

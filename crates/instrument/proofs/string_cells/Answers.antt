@@ -1,0 +1,17 @@
+-- A case for each test: outside the file's ranges both sides are 0; inside, the sum is at most 2 * 2000 + 2 * 66 + 5.
+use native.Mathlib.Omega.{arith}
+use borrow.Author.Tests.{le-leb, lt-leb}
+use Rattle.instrument.specs.Work.{counted_cells}
+use Rattle.instrument.proofs.string_cells.Goals as goal
+
+pub returns-then-s-gt2000 : goal.returns-then-s-gt2000
+unfolding counted_cells
+returns-then-s-gt2000 c = (rw (lt-leb _ _ c.if-s-gt2000.true), omega arith)
+
+pub returns-then-s-gt66 : goal.returns-then-s-gt66
+unfolding counted_cells
+returns-then-s-gt66 c = (rw (le-leb _ _ c.if-s-gt2000.false, lt-leb _ _ c.if-s-gt66.true), omega arith)
+
+pub returns : goal.returns
+unfolding counted_cells
+returns c = (rw (le-leb _ _ c.if-s-gt2000.false, le-leb _ _ c.if-s-gt66.false), omega arith)

@@ -1,0 +1,17 @@
+-- The invariant: `all` says whether the section's strings before i are in range. Start, turn and end are counting's laws of Tested.
+use mathlib.Core.Path.{ap, ◌∙◌}
+use Rattle.instrument_fields.specs.Ranges.{string_in_range}
+use Rattle.instrument_file.specs.File.{loop_in}
+use Prim.Native.Nat.{◌-◌}
+use native.Mathlib.Omega.{arith}
+use Rattle.counting.specs.Laws.{tested_none, tested_next, tested_all}
+use Rattle.instrument_file.proofs.strings_fielded.Goals as goal
+
+pub loop-i-init : goal.loop-i-init
+loop-i-init c = tested_none
+
+pub loop-i-preserved : goal.loop-i-preserved
+loop-i-preserved c = tested_next c.loop-i.invariant (omega arith) (c.string_in_range-all.ensures ∙ ap string_in_range c.loop_in.ensures)
+
+pub returns : goal.returns
+returns c = tested_all c.loop-i.invariant c.loop-i-test.false

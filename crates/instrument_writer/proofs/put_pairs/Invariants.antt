@@ -1,0 +1,16 @@
+-- The invariant: the pairs of the first k keys are stored, and the next section starts at `offset`. One turn is `pair_next`.
+use mathlib.Core.Path.{◌≡◌}
+use Prim.Native.Nat.{suc, ◌-◌}
+use lib.ListN.{length}
+use lib.Seq.{sets}
+use Rattle.counting.specs.Below.{gather}
+use Rattle.instrument_writer.specs.Pieces.{pair_bytes}
+use Rattle.instrument_writer.proofs.Loops.{AtPair}
+use Rattle.instrument_writer.proofs.put_pairs.Given as goal
+
+abbrev pub invariant-loop-k : goal.invariant-loop-k
+invariant-loop-k l =
+    (l.n ≡ l.i.key_count) × (length l.b ≡ length l.initial.b) × AtPair l.i (length l.initial.b) l.offset l.k × (l.b ≡ sets l.initial.b 12 (gather l.k (λ l.k pair_bytes l.i (suc l.k))))
+
+abbrev pub decreases-loop-k : goal.decreases-loop-k
+decreases-loop-k l = l.n - l.k

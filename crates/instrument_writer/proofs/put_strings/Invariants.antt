@@ -1,0 +1,16 @@
+-- The invariant: the first j are stored. One turn is `string_next`.
+use mathlib.Core.Path.{◌≡◌}
+use Prim.Native.Nat.{◌+◌, ◌*◌, ◌-◌, ◌≤◌}
+use lib.ListN.{length}
+use lib.Seq.{sets}
+use Rattle.counting.specs.Below.{gather}
+use Rattle.instrument.specs.Valid.{string_at}
+use Rattle.instrument_encoding.specs.Encode.{string_bytes}
+use Rattle.instrument_writer.proofs.put_strings.Given as goal
+
+abbrev pub invariant-loop-j : goal.invariant-loop-j
+invariant-loop-j l =
+    (l.j ≤ l.s) × (l.m + l.s ≤ 32) × (l.p + 44 * l.s ≤ length l.initial.b) × (length l.b ≡ length l.initial.b) × (l.b ≡ sets l.initial.b l.p (gather l.j (λ l.j string_bytes (string_at l.strings (l.m + l.j)))))
+
+abbrev pub decreases-loop-j : goal.decreases-loop-j
+decreases-loop-j l = l.s - l.j

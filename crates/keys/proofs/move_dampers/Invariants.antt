@@ -1,0 +1,11 @@
+-- `keys::move_dampers` meets its contract. The loop's invariant: what is left to do gives what the whole loop gives (`Folded` of crate cells). Assumes nothing.
+use Prim.Native.Nat.{◌-◌}
+use Rattle.cells.specs.Numbered.{Folded}
+use Rattle.keys.specs.Keys.{constants_at}
+use Rattle.keys.proofs.move_dampers.Given as goal
+
+abbrev pub invariant-loop-k : goal.invariant-loop-k
+invariant-loop-k l = Folded (constants_at l.table) (turn l.down) l.n l.initial.damper_r l.damper_r l.k
+
+abbrev pub decreases-loop-k : goal.decreases-loop-k
+decreases-loop-k l = l.n - l.k

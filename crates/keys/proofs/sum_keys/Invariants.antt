@@ -1,0 +1,11 @@
+-- `keys::sum_keys` meets its contract. The loop's invariant: what is left to do gives what the whole loop gives (`Folded` of crate cells). Assumes nothing.
+use Prim.Native.Nat.{◌-◌}
+use Rattle.cells.specs.Numbered.{Folded}
+use Rattle.string.specs.Table.{design_at}
+use Rattle.keys.proofs.sum_keys.Given as goal
+
+abbrev pub invariant-loop-i : goal.invariant-loop-i
+invariant-loop-i l = Folded (design_at l.lengths l.coefficients) (turn l.v_in) l.n l.initial.sums l.sums l.i
+
+abbrev pub decreases-loop-i : goal.decreases-loop-i
+decreases-loop-i l = l.n - l.i

@@ -1,0 +1,11 @@
+-- `sample::flies` meets its contract: each arm is a case of `pushed_by`. Assumes nothing.
+use Rattle.sample.specs.Sample.{pushed_by}
+use Rattle.sample.proofs.flies.Goals as goal
+
+pub returns-in-Resting : goal.returns-in-Resting
+unfolding pushed_by
+returns-in-Resting c = rw c.enum_told-1.given.1
+
+pub returns-in-Flying : goal.returns-in-Flying
+unfolding pushed_by
+returns-in-Flying c = rw c.h-1.given.1

@@ -1,0 +1,19 @@
+-- Each variant gives the rank that the definition gives it.
+use Rattle.score_edits.specs.Edits.{rank_of}
+use Rattle.score_edits.proofs.rank_of.Goals as goal
+
+pub returns-in-NoteOn : goal.returns-in-NoteOn
+unfolding rank_of
+returns-in-NoteOn c = rw c.enum_told-1.given.1
+
+pub returns-in-NoteOff : goal.returns-in-NoteOff
+unfolding rank_of
+returns-in-NoteOff c = rw c.enum_told-in-NoteOff-1.given.1
+
+pub returns-in-Pedal : goal.returns-in-Pedal
+unfolding rank_of
+returns-in-Pedal c = rw c.enum_told-in-Pedal-1.given.1
+
+pub returns-in-HandDamp : goal.returns-in-HandDamp
+unfolding rank_of
+returns-in-HandDamp c = rw c.enum_told-in-HandDamp-1.given.1

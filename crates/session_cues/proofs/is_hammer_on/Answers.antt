@@ -1,0 +1,11 @@
+-- By the two cases of the hammer.
+use Rattle.score.specs.Contacts.{hammer_on}
+use Rattle.session_cues.proofs.is_hammer_on.Goals as goal
+
+pub returns-in-Resting : goal.returns-in-Resting
+unfolding hammer_on
+returns-in-Resting c = rw c.enum_told-1.given.1
+
+pub returns-in-Flying : goal.returns-in-Flying
+unfolding hammer_on
+returns-in-Flying c = rw c.hammer-1.given.1

@@ -1,0 +1,31 @@
+-- The invariant: the first i are read. Assumes nothing.
+use mathlib.Core.Path.{◌≡◌, refl, ap, ◌∙◌}
+use Prim.Native.Nat.{◌-◌}
+use native.Mathlib.Omega.{arith}
+use lib.ListN.{drop, length-set}
+use Rattle.session_words.specs.Items.{items_of, items_turn, items_end}
+use Rattle.session_words.specs.Session.{timed_of}
+use Rattle.session_words.proofs.Runs.{item_at}
+use Rattle.session_words.specs.Layout.{events_offset, timed_size}
+use Rattle.session_words.proofs.event.events_at.Goals as goal
+
+pub loop-i-init : goal.loop-i-init
+unfolding items_of
+loop-i-init c = (omega arith, refl, c.requires, refl)
+
+pub loop-i-preserved : goal.loop-i-preserved
+loop-i-preserved c =
+    let z = c.args in
+    (
+      omega arith,
+      simp length-set c.loop-i.invariant.1,
+      c.loop-i.invariant.2,
+      items_turn timed_of timed_size c.loop-i.i (drop events_offset z.words.now) c.loop-i.events _ (omega arith) c.loop-i.invariant.3
+          (c.timed_at-timed.ensures ∙ ap timed_of (item_at z.words.now events_offset timed_size c.loop-i.i)),
+    )
+
+pub returns : goal.returns
+returns c =
+    let z = c.args in
+    let n : c.loop-i.i ≡ 64 = omega arith in
+    items_end timed_of timed_size 64 (drop events_offset z.words.now) c.loop-i.events c.loop-i.invariant.1 (rw n at c.loop-i.invariant.3)

@@ -1,0 +1,21 @@
+-- Each case stores the three words that `event_words` gives it. Assumes nothing.
+use Rattle.session_words.specs.Session.{event_words}
+use Rattle.session_words.proofs.event.put_event.Goals as goal
+
+pub returns-in-NoteOn : goal.returns-in-NoteOn
+unfolding event_words
+returns-in-NoteOn c =
+    rw (c.event-1.given.1, ← c.bits_of.ensures) c.put_three.ensures
+
+pub returns-in-NoteOff : goal.returns-in-NoteOff
+unfolding event_words
+returns-in-NoteOff c = rw c.event-in-NoteOff-1.given.1 c.put_three-in-NoteOff.ensures
+
+pub returns-in-Pedal : goal.returns-in-Pedal
+unfolding event_words
+returns-in-Pedal c =
+    rw (c.event-in-Pedal-1.given.1, ← c.bit_of.ensures) c.put_three-in-Pedal.ensures
+
+pub returns-in-HandDamp : goal.returns-in-HandDamp
+unfolding event_words
+returns-in-HandDamp c = rw c.event-in-HandDamp-1.given.1 c.put_three-in-HandDamp.ensures
