@@ -78,6 +78,9 @@ module _ (n taps factor room : ℕ) where
     unfolding refusal_of
     none_wrong e g = rw (le-ltb 64 factor h, le-ltb 1048576 n k, eq-eqb taps 127 e, eq-eqb room (output_length n factor) g)
 
+-- what each way out of `refusal` has to say
+pub ruleset refusals = (factor_high, input_long, taps_wrong, room_wrong, none_wrong)
+
 -- what the number 0 says
 only : (a b c d : Bool) → ◌≡◌ {A = ℕ} (cond (a || b) 17 (cond c (cond d 0 19) 18)) 0 → (b ≡ false) × (c ≡ true) × (d ≡ true)
 only false false true true e = (refl, refl, refl)
