@@ -20,7 +20,7 @@ rust_at_hand() {
 stands() {
     local file=$1
     shift
-    [ -e "$file" ] && [ -z "$(find "$@" -newer "$file" -print -quit)" ]
+    [ -e "$file" ] && [ -z "$(find "$@" -name out -prune -o -newer "$file" ! -type d -print -quit)" ]
 }
 
 # made FILE COMMAND..: runs a command of rt where FILE does not stand over the crates; prints what it said only where it
@@ -37,9 +37,9 @@ made() {
     ) 9>target/compare/lock
 }
 
-# proved_library NAME: makes target/staticlib/libNAME.a; rt proves the crate once more for it.
+# proved_library NAME: makes target/staticlib/libNAME.a.
 proved_library() {
-    made "target/staticlib/lib$1.a" rt staticlib "$1"
+    made "target/staticlib/lib$1.a" scripts/build "$1"
 }
 
 # proved_libraries NAME..: the same of several at a time. Each looks at the crates below it first and writes down what it finds, so the next begins a
@@ -49,7 +49,7 @@ proved_libraries() {
         flock 9
         for name in "$@"; do
             stands "target/staticlib/lib$name.a" crates crates.txt && continue
-            rt staticlib "$name" >"target/compare/$name.log" 2>&1 &
+            scripts/build "$name" >"target/compare/$name.log" 2>&1 &
             sleep 10
         done
         wait
@@ -58,7 +58,7 @@ proved_libraries() {
 
 # proved_program NAME: makes target/bin/NAME.
 proved_program() {
-    made "target/bin/$1" rt check "$1"
+    made "target/bin/$1" scripts/build "$1"
 }
 
 # rustc_of OUT WORDS..: no fast-math and no target-cpu, so that every operation is rounded once, as in the proved code.

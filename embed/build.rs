@@ -1,4 +1,4 @@
-//! Links libgingerfile.a: the one in the folder that GINGERFILE_LIB_DIR names, else the one that `rt staticlib gingerfile`
+//! Links libgingerfile.a: the one in the folder that GINGERFILE_LIB_DIR names, else the one that `scripts/build gingerfile`
 //! makes in this repository.
 
 use std::env;
@@ -37,7 +37,7 @@ fn main() {
         let remedy = if named {
             "GINGERFILE_LIB_DIR names that folder; it must be a whole path"
         } else {
-            "make it with `rt staticlib gingerfile` at the repository's root, or name the folder that has it in GINGERFILE_LIB_DIR"
+            "make it with `scripts/build gingerfile` at the repository's root, or name the folder that has it in GINGERFILE_LIB_DIR"
         };
         fail(&format!("there is no {}: {remedy}", archive.display()));
     }

@@ -1,4 +1,4 @@
-/* The rehearsal piano for C: libgingerfile.a, made by `rt staticlib gingerfile`. Numbers and slices alone cross; a slice is
+/* The rehearsal piano for C: libgingerfile.a, made by `scripts/build gingerfile`. Numbers and slices alone cross; a slice is
    a pointer and a length in elements. Slices of one call must not overlap. Nothing is kept between calls: the host owns the
    instrument's file, the session's words and the work memory, and hands them to every call.
 

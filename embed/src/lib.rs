@@ -1,5 +1,5 @@
 //! A rehearsal piano whose every sample, force and count is proved: a safe wrapper over `libgingerfile.a`, which
-//! `rt staticlib gingerfile` makes. `docs/EMBEDDING.md` in the repository is the page for hosts.
+//! `scripts/build gingerfile` makes. `docs/EMBEDDING.md` in the repository is the page for hosts.
 //!
 //! A [`Console`] is an instrument and a session on it: a score of at most 64 events, a position, and up to four cues, to which
 //! it steps back with strings, pedal, dampers, hammer and every key's count. Its calls keep nothing outside it.

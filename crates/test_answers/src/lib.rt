@@ -2,9 +2,11 @@
 // before each. Whatever else stands there is unreadable. Both zeros and all NaNs count alike.
 #![tactic(auto)]
 
-ghost use Rattle.std.specs.Prelude.{◌≡◌, ◌≤◌, length};
+ghost use Rattle.std.specs.Prelude.{◌≡◌, ◌≤◌, length, IfOk};
 
 use little_endian::{bits_of, float_of};
+use std::io;
+use std::io::Read;
 use text::{Number, hexadecimal_of};
 
 #[derive(Clone, Copy)]
@@ -17,6 +19,21 @@ pub enum Word {
 pub enum Words {
     Count(usize),
     Unreadable,
+}
+
+// Reads until the buffer is full or the source ends; how many bytes it read. Of a full buffer nobody knows whether the source goes on.
+pub fn read_full<R: Read>(source: &mut R, buffer: &mut [u8]) -> io::Result<usize>
+    ensures { IfOk result (λ n. n ≤ length buffer.new) }
+{
+    let mut n: usize = 0;
+    while n < buffer.len() {
+        let got = source.read(&mut buffer[n..])?;
+        if got == 0 {
+            break;
+        }
+        n += got;
+    }
+    Ok(n)
 }
 
 // A space and sixteen digits.

@@ -3,39 +3,36 @@
 #![tactic(auto)]
 
 use instrument::{Instrument, is_valid, part_cells, work_cells};
-use libc::STDOUT_FILENO;
-
-fn say(words: &[u8]) {
-    io::write_all(STDOUT_FILENO, words);
-}
-
-fn say_number(words: &[u8], n: usize) {
-    say(words);
-    io::print_decimal(STDOUT_FILENO, n as u64);
-}
+use std::env::FillError;
+use std::fs::File;
+use std::io;
+use std::rt::{Env, Files};
+use test_answers::read_full;
 
 // Document 01's words, shortened, for the refusals of a file.
-fn say_refusal(number: u32) {
+fn say_refusal(rt: &impl Print, number: u32) -> io::Result<()> {
     match number {
-        1 => say(b"refused 1: too short, or D out of range\n"),
-        2 => say(b"refused 2: the pairs do not chain\n"),
-        3 => say(b"refused 3: a section's length or string count\n"),
-        4 => say(b"refused 4: a field out of range, or the zero byte\n"),
-        5 => say(b"refused 5: more than 32 strings\n"),
-        6 => say(b"refused 6: a key number comes twice\n"),
-        _ => say(b"refused\n"),
+        1 => println!(rt; "refused 1: too short, or D out of range"),
+        2 => println!(rt; "refused 2: the pairs do not chain"),
+        3 => println!(rt; "refused 3: a section's length or string count"),
+        4 => println!(rt; "refused 4: a field out of range, or the zero byte"),
+        5 => println!(rt; "refused 5: more than 32 strings"),
+        6 => println!(rt; "refused 6: a key number comes twice"),
+        _ => println!(rt; "refused"),
     }
 }
 
 // The record's counts; every accepted file's record passes the test of refusal 7.
-fn say_instrument(i: Instrument) {
-    say_number(b"keys ", i.key_count);
-    say_number(b", strings S = ", i.string_count);
-    say_number(b", cells W = ", part_cells(i));
-    say_number(b", work memory ", work_cells(i));
+fn say_instrument(rt: &impl Print, i: Instrument) -> io::Result<()> {
+    let keys = i.key_count;
+    let strings = i.string_count;
+    let cells = part_cells(i);
+    let work = work_cells(i);
+    print!(rt; "keys {keys}, strings S = {strings}, cells W = {cells}, work memory {work}")?;
     if !is_valid(i) {
-        say(b", refused 7");
+        print!(rt; ", refused 7")?;
     }
+    Ok(())
 }
 
 // ---- the file again
@@ -59,30 +56,43 @@ fn first_wrong(bytes: &[u8], file: &[u8]) -> usize {
 }
 
 // Writes a record into the first n bytes; says what the writer answers, then `right` where all bytes are as they should be.
-fn say_writing(i: Instrument, bytes: &mut [u8], n: usize, file: &[u8], right: &[u8]) {
+fn say_writing(
+    rt: &impl Print,
+    i: Instrument,
+    bytes: &mut [u8],
+    n: usize,
+    file: &[u8],
+    right: &str,
+) -> io::Result<()> {
     if bytes.len() < n {
-        return;
+        return Ok(());
     }
     let answer = instrument_writer::write(i, &mut bytes[..n]);
-    if answer.refusal == 0 {
-        say_number(b"written ", answer.length);
+    let length = answer.length;
+    let refusal = answer.refusal;
+    if refusal == 0 {
+        print!(rt; "written {length}")?;
     } else {
-        say_number(b"refused ", answer.refusal as usize);
+        print!(rt; "refused {refusal}")?;
     }
     let wrong = first_wrong(bytes, file);
     if wrong < bytes.len() {
-        say_number(b", wrong from byte ", wrong);
-        say(b" on\n");
+        println!(rt; ", wrong from byte {wrong} on")
     } else {
-        say(right);
+        println!(rt; ", {right}")
     }
 }
 
-fn say_refused(path: &[u8], words: &[u8], i: Instrument, n: usize) {
+fn say_refused(
+    rt: &impl Print,
+    path: &str,
+    words: &str,
+    i: Instrument,
+    n: usize,
+) -> io::Result<()> {
     let mut bytes = [BEFORE; ROOM];
-    say(path);
-    say(words);
-    say_writing(i, &mut bytes, n, b"", b", untouched\n");
+    print!(rt; "{path}, {words}: ")?;
+    say_writing(rt, i, &mut bytes, n, b"", "untouched")
 }
 
 // No place of a record may hold this weight, used or unused.
@@ -92,52 +102,74 @@ fn spoiled(instrument: Instrument) -> Instrument {
     i
 }
 
-fn say_again(path: &[u8], i: Instrument, file: &[u8]) {
+fn say_again(rt: &impl Print, path: &str, i: Instrument, file: &[u8]) -> io::Result<()> {
     let mut bytes = [BEFORE; ROOM];
-    say_writing(i, &mut bytes, ROOM, file, b", same\n");
+    say_writing(rt, i, &mut bytes, ROOM, file, "same")?;
     let n = file.len();
     if n < 1 {
-        return;
+        return Ok(());
     }
     let wrong = spoiled(i);
-    say_refused(path, b", one byte short: ", i, n - 1);
-    say_refused(path, b", a place spoiled: ", wrong, ROOM);
-    say_refused(path, b", both: ", wrong, n - 1);
+    say_refused(rt, path, "one byte short", i, n - 1)?;
+    say_refused(rt, path, "a place spoiled", wrong, ROOM)?;
+    say_refused(rt, path, "both", wrong, n - 1)
 }
 
-// An accepted file has at most 2,200 bytes, so that a file that fills the buffer is none.
-fn read_one(path: &[u8]) {
-    say(path);
-    say(b": ");
-    let fd = os::open_read(path);
-    if fd < 0 {
-        say(b"not there\n");
-        return;
-    }
-    let mut bytes = io::large_buffer();
-    let n = io::read_full(fd, &mut bytes);
-    libc::close(fd);
-    let file = &bytes[..n];
+fn blank() -> [u8; 65536] {
+    [0u8; 65536]
+}
+
+// What a file's bytes are read as.
+fn say_file(rt: &impl Print, path: &str, file: &[u8]) -> io::Result<()> {
     let answer = instrument_file::read(file);
     let i = answer.instrument;
     if answer.refusal == 0 {
-        say_instrument(i);
-        say(b", ");
-        say_again(path, i, file);
+        say_instrument(rt, i)?;
+        print!(rt; ", ")?;
+        say_again(rt, path, i, file)
     } else {
-        say_refusal(answer.refusal);
+        say_refusal(rt, answer.refusal)
     }
 }
 
-fn read_argument(i: usize) {
-    let mut path = io::buffer();
-    let n = os::arg(i, &mut path);
-    read_one(&path[..n]);
+// An accepted file has at most 2,200 bytes, so that a file that fills the buffer is none. A file that cannot be opened is not there.
+fn read_one(rt: &(impl Files + Print), path: &str) -> io::Result<()> {
+    print!(rt; "{path}: ")?;
+    match File::open(rt, path) {
+        Ok(opened) => {
+            let mut source = opened;
+            let mut bytes = blank();
+            let n = read_full(&mut source, &mut bytes)?;
+            say_file(rt, path, &bytes[..n])
+        }
+        Err(_) => println!(rt; "not there"),
+    }
 }
 
-fn main() {
-    let count = os::arg_count();
-    for i in 1usize..count {
-        read_argument(i);
+// The files of std have names in UTF-8 alone.
+fn read_named(rt: &(impl Files + Print), path: &[u8]) -> io::Result<()> {
+    match str::from_utf8(path) {
+        Ok(text) => read_one(rt, text),
+        Err(_) => Err(io::Error::from(io::ErrorKind::InvalidInput)),
     }
+}
+
+// Whether there is an argument i. One that is too long for a path names no file.
+fn read_argument(rt: &(impl Env + Files + Print), i: usize) -> io::Result<bool> {
+    let mut path = [0u8; 4096];
+    match rt.arg(i, &mut path) {
+        Ok(n) => read_named(rt, &path[..n])?,
+        Err(FillError::TooLong) => read_one(rt, "")?,
+        Err(FillError::NotPresent) => return Ok(false),
+    }
+    Ok(true)
+}
+
+fn main(rt: HostRuntime) -> io::Result<()> {
+    for i in 1usize..usize::MAX {
+        if !read_argument(&rt, i)? {
+            break;
+        }
+    }
+    Ok(())
 }

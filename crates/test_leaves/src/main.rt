@@ -6,7 +6,7 @@ mod answers;
 mod decimated;
 
 use answers::Verdict;
-use libc::{STDIN_FILENO, STDOUT_FILENO};
+use std::io;
 use std::num::wrapping_add_u64;
 use test_answers::{Words, rest, starts};
 
@@ -116,54 +116,53 @@ fn count_lines(tally: &mut [u64; 25], text: &[u8]) {
     }
 }
 
-fn print_kind(tally: &[u64; 25], kind: usize, name: &[u8]) {
-    if kind < 12 {
-        io::write_all(STDOUT_FILENO, name);
-        io::write_all(STDOUT_FILENO, b" ");
-        io::print_decimal(STDOUT_FILENO, tally[2 * kind]);
-        io::write_all(STDOUT_FILENO, b" answers, ");
-        io::print_decimal(STDOUT_FILENO, tally[2 * kind + 1]);
-        io::write_all(STDOUT_FILENO, b" differ\n");
+fn print_kind(rt: &impl Print, tally: &[u64; 25], kind: usize, name: &str) -> io::Result<()> {
+    if 12 <= kind {
+        return Ok(());
     }
+    let answers = tally[2 * kind];
+    let differ = tally[2 * kind + 1];
+    println!(rt; "{name} {answers} answers, {differ} differ")
 }
 
-fn print_numbers(tally: &[u64; 25]) {
-    print_kind(tally, 0, b"root");
-    print_kind(tally, 1, b"power");
-    print_kind(tally, 2, b"min");
-    print_kind(tally, 3, b"max");
-    print_kind(tally, 4, b"clamp");
-    print_kind(tally, 5, b"positive_part");
-    print_kind(tally, 6, b"round_away");
+fn print_numbers(rt: &impl Print, tally: &[u64; 25]) -> io::Result<()> {
+    print_kind(rt, tally, 0, "root")?;
+    print_kind(rt, tally, 1, "power")?;
+    print_kind(rt, tally, 2, "min")?;
+    print_kind(rt, tally, 3, "max")?;
+    print_kind(rt, tally, 4, "clamp")?;
+    print_kind(rt, tally, 5, "positive_part")?;
+    print_kind(rt, tally, 6, "round_away")
 }
 
-fn print_strings(tally: &[u64; 25]) {
-    print_kind(tally, 7, b"contact_force");
-    print_kind(tally, 8, b"cuts");
-    print_kind(tally, 9, b"allpass");
-    print_kind(tally, 10, b"dispersion");
-    print_kind(tally, 11, b"loop_filter");
-    io::print_decimal(STDOUT_FILENO, tally[24]);
-    io::write_all(STDOUT_FILENO, b" lines unreadable\n");
+fn print_strings(rt: &impl Print, tally: &[u64; 25]) -> io::Result<()> {
+    print_kind(rt, tally, 7, "contact_force")?;
+    print_kind(rt, tally, 8, "cuts")?;
+    print_kind(rt, tally, 9, "allpass")?;
+    print_kind(rt, tally, 10, "dispersion")?;
+    print_kind(rt, tally, 11, "loop_filter")?;
+    let unreadable = tally[24];
+    println!(rt; "{unreadable} lines unreadable")
 }
 
-fn replay(text: &[u8]) {
+fn replay(rt: &impl Print, text: &[u8]) -> io::Result<()> {
     let mut tally = [0u64; 25];
     count_lines(&mut tally, text);
-    print_numbers(&tally);
-    print_strings(&tally);
+    print_numbers(rt, &tally)?;
+    print_strings(rt, &tally)
 }
 
 fn blank() -> [u8; 262144] {
     [0u8; 262144]
 }
 
-fn main() {
+fn main(rt: HostRuntime) -> io::Result<()> {
     let mut text = blank();
-    let n = io::read_full(STDIN_FILENO, &mut text);
-    replay(&text[..n]);
-    decimated::print_row();
+    let n = test_answers::read_full(&mut rt.stdin(), &mut text)?;
+    replay(&rt, &text[..n])?;
+    decimated::print_row(&rt)?;
     if n == 262144 {
-        io::write_all(STDOUT_FILENO, b"the answers may go on past what is read\n");
+        println!(rt; "the answers may go on past what is read")?;
     }
+    Ok(())
 }

@@ -7,9 +7,10 @@ mod calls;
 mod record;
 mod row;
 
-use libc::{STDIN_FILENO, STDOUT_FILENO};
 use little_endian::part;
 use record::WORDS;
+use std::io;
+use std::io::Write;
 use std::num::wrapping_add_usize;
 
 // A row's name ends at its first colon.
@@ -24,58 +25,65 @@ fn name_length(row: &[u8]) -> usize {
     n
 }
 
-fn try_words(words: &[u64; WORDS]) {
+fn try_words(rt: &impl Print, words: &[u64; WORDS]) -> io::Result<()> {
     let read = session_words::session_at(record::session_in(words));
     if read.is_session {
         let session = read.session;
         calls::try_calls(
+            rt,
             record::instrument_of(words),
             session,
             record::lent_of(words),
-        );
+        )
     } else {
-        io::write_all(STDOUT_FILENO, b" not a session's words");
+        print!(rt; " not a session's words")
     }
 }
 
-fn try_row(row: &[u8]) {
+fn try_row(rt: &impl Print, row: &[u8]) -> io::Result<()> {
     let n = name_length(row);
-    io::write_all(STDOUT_FILENO, part(row, 0, n));
-    io::write_all(STDOUT_FILENO, b":");
+    io::writer(rt).write_all(part(row, 0, n))?;
+    print!(rt; ":")?;
     let mut words = record::right_words();
     if row::change(&mut words, part(row, wrapping_add_usize(n, 1), row.len())) {
-        try_words(&words);
+        try_words(rt, &words)?;
     } else {
-        io::write_all(STDOUT_FILENO, b" unreadable");
+        print!(rt; " unreadable")?;
     }
-    io::write_all(STDOUT_FILENO, b"\n");
+    println!(rt;)
 }
 
 // Empty lines and those that begin with # are no rows.
-fn try_line(line: &[u8]) {
+fn try_line(rt: &impl Print, line: &[u8]) -> io::Result<()> {
     if line.len() == 0 {
-        return;
+        return Ok(());
     }
     if line[0] == b'#' {
-        return;
+        return Ok(());
     }
-    try_row(line);
+    try_row(rt, line)
 }
 
-fn try_lines(text: &[u8]) {
+fn try_lines(rt: &impl Print, text: &[u8]) -> io::Result<()> {
     let mut at: usize = 0;
     while at < text.len() {
         let end = test_answers::line_end(text, at);
-        try_line(&text[at..end]);
+        try_line(rt, &text[at..end])?;
         at = end + 1;
     }
+    Ok(())
 }
 
-fn main() {
-    let mut text = io::large_buffer();
-    let n = io::read_full(STDIN_FILENO, &mut text);
-    try_lines(&text[..n]);
+fn blank() -> [u8; 65536] {
+    [0u8; 65536]
+}
+
+fn main(rt: HostRuntime) -> io::Result<()> {
+    let mut text = blank();
+    let n = test_answers::read_full(&mut rt.stdin(), &mut text)?;
+    try_lines(&rt, &text[..n])?;
     if n == 65536 {
-        io::write_all(STDOUT_FILENO, b"the rows may go on past what is read\n");
+        println!(rt; "the rows may go on past what is read")?;
     }
+    Ok(())
 }

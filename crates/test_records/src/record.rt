@@ -22,7 +22,7 @@ const LENT: usize = LAST_KEY + 1;
 pub const WORDS: usize = LENT + 1;
 
 fn embedded_instrument() -> Instrument {
-    let mut file = io::buffer();
+    let mut file = [0u8; 4096];
     let n = embedded::put_instrument(&mut file);
     let answer = instrument_file::read(little_endian::part(&file, 0, n));
     answer.instrument

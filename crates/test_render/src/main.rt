@@ -6,12 +6,11 @@ mod block;
 mod state;
 
 use block::{CELLS, Render, Verdict, WORDS};
-use libc::{STDIN_FILENO, STDOUT_FILENO};
 use little_endian::{float_of, part, put_u64};
 use score::{Event, Score, TimedEvent};
+use std::io;
 use std::num::{wrapping_add_u64, wrapping_add_usize};
 use test_answers::{Words, rest, starts};
-use text::lines::row;
 
 // What the tally counts, by its place.
 const RENDERS: usize = 0;
@@ -210,32 +209,32 @@ fn replay_lines(tally: &mut [u64; 6], text: &[u8], cells: &mut [f64; CELLS]) {
 }
 
 // The tally, a name to each count.
-fn report(tally: &[u64; 6]) {
-    let names =
-        b" renders\n blocks with their states\n samples\n forces\n blocks differ\n lines unreadable";
-    for i in 0usize..6usize {
-        io::print_decimal(STDOUT_FILENO, tally[i]);
-        io::write_all(STDOUT_FILENO, row(names, i as u64));
-        io::write_all(STDOUT_FILENO, b"\n");
-    }
+fn report(rt: &impl Print, tally: &[u64; 6]) -> io::Result<()> {
+    println!(rt; "{} renders", tally[RENDERS])?;
+    println!(rt; "{} blocks with their states", tally[BLOCKS])?;
+    println!(rt; "{} samples", tally[SAMPLES])?;
+    println!(rt; "{} forces", tally[FORCES])?;
+    println!(rt; "{} blocks differ", tally[DIFFERING])?;
+    println!(rt; "{} lines unreadable", tally[UNREADABLE])
 }
 
-fn replay(text: &[u8]) {
+fn replay(rt: &impl Print, text: &[u8]) -> io::Result<()> {
     let mut tally = [0u64; 6];
     let mut cells = [0.0; CELLS];
     replay_lines(&mut tally, text, &mut cells);
-    report(&tally);
+    report(rt, &tally)
 }
 
 fn blank() -> [u8; 524288] {
     [0u8; 524288]
 }
 
-fn main() {
+fn main(rt: HostRuntime) -> io::Result<()> {
     let mut text = blank();
-    let n = io::read_full(STDIN_FILENO, &mut text);
-    replay(&text[..n]);
+    let n = test_answers::read_full(&mut rt.stdin(), &mut text)?;
+    replay(&rt, &text[..n])?;
     if n == 524288 {
-        io::write_all(STDOUT_FILENO, b"the answers may go on past what is read\n");
+        println!(rt; "the answers may go on past what is read")?;
     }
+    Ok(())
 }

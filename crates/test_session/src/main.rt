@@ -7,9 +7,10 @@ mod sums;
 
 use console::Console;
 use instrument::Instrument;
-use libc::{STDIN_FILENO, STDOUT_FILENO};
 use little_endian::part;
 use reading::Record;
+use std::io;
+use std::io::Stdin;
 use std::num::wrapping_add_u64;
 use text::lines::{Found, Reader};
 use text::{lines, put_refusal};
@@ -222,6 +223,7 @@ struct Read {
 
 // The next stored line, if there is one; a line that is too long cannot be read.
 fn replay_next(
+    source: &mut Stdin,
     s: State,
     reader: Reader,
     input: &mut [u8; 65536],
@@ -231,7 +233,7 @@ fn replay_next(
     text: &mut [u8; 1024],
     file: &mut [u8; 4096],
 ) -> Read {
-    let next = lines::next(input, reader);
+    let next = lines::next(source, input, reader);
     let after = next.reader;
     let found = next.found;
     if is_over(found) {
@@ -251,6 +253,7 @@ fn replay_next(
 }
 
 fn replay_all(
+    source: &mut Stdin,
     start: State,
     input: &mut [u8; 65536],
     work: &mut [f64; 662000],
@@ -260,9 +263,9 @@ fn replay_all(
     file: &mut [u8; 4096],
 ) -> Tally {
     let mut s = start;
-    let mut reader = lines::from_file(STDIN_FILENO);
+    let mut reader = lines::from_file();
     for i in 0..u64::MAX {
-        let read = replay_next(s, reader, input, work, out, trace, text, file);
+        let read = replay_next(source, s, reader, input, work, out, trace, text, file);
         let state = read.state;
         s = state;
         let after = read.reader;
@@ -274,22 +277,15 @@ fn replay_all(
     s.tally
 }
 
-fn say(n: u64, words: &[u8]) {
-    io::print_decimal(STDOUT_FILENO, n);
-    io::write_all(STDOUT_FILENO, words);
-}
-
-fn report_counts(tally: Tally) {
-    say(tally.lists, b" lists, ");
-    say(tally.answers, b" answers, ");
-    say(tally.samples, b" samples, ");
-}
-
-fn report(tally: Tally) {
-    report_counts(tally);
-    say(tally.forces, b" forces: ");
-    say(tally.differ, b" differ, ");
-    say(tally.unreadable, b" lines unreadable\n");
+fn report(rt: &impl Print, tally: Tally) -> io::Result<()> {
+    print!(rt;
+        "{} lists, {} answers, {} samples, ",
+        tally.lists, tally.answers, tally.samples
+    )?;
+    println!(rt;
+        "{} forces: {} differ, {} lines unreadable",
+        tally.forces, tally.differ, tally.unreadable
+    )
 }
 
 fn nothing() -> Tally {
@@ -303,19 +299,27 @@ fn nothing() -> Tally {
     }
 }
 
-fn main() {
+fn main(rt: HostRuntime) -> io::Result<()> {
     let mut work = [0.0; 662000];
     let mut out = [0.0; 65536];
     let mut trace = [0.0; 65536];
-    let mut input = io::large_buffer();
+    let mut input = [0u8; 65536];
     let mut text = [0u8; 1024];
-    let mut file = io::buffer();
+    let mut file = [0u8; 4096];
     let replay = open(b"", &mut work, &trace, &mut text);
     let start = State {
         replay,
         tally: nothing(),
     };
-    report(replay_all(
-        start, &mut input, &mut work, &mut out, &mut trace, &mut text, &mut file,
-    ));
+    let tally = replay_all(
+        &mut rt.stdin(),
+        start,
+        &mut input,
+        &mut work,
+        &mut out,
+        &mut trace,
+        &mut text,
+        &mut file,
+    );
+    report(&rt, tally)
 }

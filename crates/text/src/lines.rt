@@ -1,14 +1,14 @@
-// The lines of a file or of standard input, through a lent buffer.
+// The lines of a file, of standard input or of any other source, through a lent buffer.
 ghost use Rattle.std.specs.Prelude.{◌≤◌, length};
 
 use little_endian::part;
+use std::io::Read;
 use std::num::{wrapping_add_usize, wrapping_sub_usize};
 
 // Of the buffer the bytes from start up to end are read and not given out yet. A line that the buffer does not hold is dropped up to its end: `is_long`, and `is_remark`
 // where it begins with #.
 #[derive(Clone, Copy)]
 pub struct Reader {
-    pub fd: i32,
     pub start: usize,
     pub end: usize,
     pub is_ended: bool,
@@ -35,9 +35,9 @@ pub struct Line {
     pub reader: Reader,
 }
 
-pub fn from_file(fd: i32) -> Reader {
+// Nothing of the source is read yet.
+pub fn from_file() -> Reader {
     Reader {
-        fd,
         start: 0,
         end: 0,
         is_ended: false,
@@ -47,9 +47,9 @@ pub fn from_file(fd: i32) -> Reader {
     }
 }
 
-// The buffer's first n bytes, and no others.
+// The buffer's first n bytes, and no others: no source is asked, so that `std::io::empty()` may stand for one.
 pub fn from_bytes(n: usize) -> Reader {
-    let mut reader = from_file(0);
+    let mut reader = from_file();
     reader.end = n;
     reader.is_ended = true;
     reader
@@ -107,31 +107,32 @@ fn dropped(buffer: &[u8], reader: Reader) -> Reader {
     next
 }
 
-// One read behind the bytes that are held.
-fn read_more(buffer: &mut [u8], reader: Reader, held: usize) -> Reader
+// One read behind the bytes that are held. A read that fails, or that a signal interrupts, ends them.
+fn read_more<R: Read>(source: &mut R, buffer: &mut [u8], reader: Reader, held: usize) -> Reader
     requires { held ≤ length buffer.old }
 {
     let mut next = reader;
     next.start = 0;
     next.end = held;
-    let got = libc::read(reader.fd, &mut buffer[held..]);
-    if got < 0 {
-        next.is_failed = true;
-        next.is_ended = true;
-        return next;
+    match source.read(&mut buffer[held..]) {
+        Ok(0) => {
+            next.is_ended = true;
+        }
+        Ok(n) => {
+            next.end = held + n;
+        }
+        Err(_) => {
+            next.is_failed = true;
+            next.is_ended = true;
+        }
     }
-    if got == 0 {
-        next.is_ended = true;
-        return next;
-    }
-    next.end = wrapping_add_usize(held, io::count(got, buffer));
     next
 }
 
-fn refill(buffer: &mut [u8], reader: Reader) -> Reader {
+fn refill<R: Read>(source: &mut R, buffer: &mut [u8], reader: Reader) -> Reader {
     let held = shift(buffer, reader.start, reader.end);
     if held < buffer.len() {
-        read_more(buffer, reader, held)
+        read_more(source, buffer, reader, held)
     } else {
         dropped(buffer, reader)
     }
@@ -193,7 +194,8 @@ fn without_return(buffer: &[u8], start: usize, feed: usize) -> usize {
     feed
 }
 
-pub fn next(buffer: &mut [u8], reader: Reader) -> Line {
+// The next line: the source is read, one read at a time, only while the buffer holds no whole line.
+pub fn next<R: Read>(source: &mut R, buffer: &mut [u8], reader: Reader) -> Line {
     let mut r = reader;
     for turn in 0..u64::MAX {
         let feed = find_feed(buffer, r.start, r.end);
@@ -204,7 +206,7 @@ pub fn next(buffer: &mut [u8], reader: Reader) -> Line {
         if r.is_ended {
             return last(r);
         }
-        let more = refill(buffer, r);
+        let more = refill(source, buffer, r);
         r = more;
     }
     ended(r, Found::End)
