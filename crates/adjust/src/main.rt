@@ -6,20 +6,21 @@ mod pairs;
 
 use instrument::Instrument;
 use instrument_writer::LONGEST_FILE;
-use libc::STDERR_FILENO;
 use little_endian::part;
 use program::arguments::{Arguments, DONE, REFUSED, WRONG};
+use program::message::tell;
+use program::system::System;
 use program::{arguments, output, replacement, streams};
 use text::put_counted;
 
 // Where the file is in its place, that is answered, and else why not.
-fn replace_out(out: &[u8], file: &[u8]) -> u8 {
-    if !replacement::replace(b"adjust", out, file) {
+fn replace_out(rt: &impl System, out: &[u8], file: &[u8]) -> u8 {
+    if !replacement::replace(rt, b"adjust", out, file) {
         return WRONG;
     }
     let mut line = [0u8; 64];
     let n = put_counted(&mut line, 0, b"ok ", file.len() as u64);
-    if streams::write_answer(b"adjust", out, &mut line, n) {
+    if streams::write_answer(rt, b"adjust", out, &mut line, n) {
         DONE
     } else {
         WRONG
@@ -27,12 +28,13 @@ fn replace_out(out: &[u8], file: &[u8]) -> u8 {
 }
 
 // OUT may be the instrument: no input is in use, and the first two rows are for none.
-fn is_free(out: &[u8]) -> bool {
-    let nothing = file_status::status_of(-1);
+fn is_free(rt: &impl System, out: &[u8]) -> bool {
+    let nothing = file_status::unknown();
     replacement::is_replaceable(
+        rt,
         b"adjust",
         out,
-        output::in_use(nothing, nothing),
+        output::in_use(rt, nothing, nothing),
         b"\
             \n\
             \n\
@@ -42,68 +44,71 @@ fn is_free(out: &[u8]) -> bool {
 }
 
 // A record that the writer refuses is a refused instrument, as a file is that the reader refuses. The bytes hold the longest file, so it refuses none by 20.
-fn write_adjusted(given: Arguments, instrument: Instrument, path: &[u8], out: &[u8]) -> u8 {
+fn write_adjusted(
+    rt: &impl System,
+    given: Arguments,
+    instrument: Instrument,
+    path: &[u8],
+    out: &[u8],
+) -> u8 {
     let mut bytes = [0u8; LONGEST_FILE];
-    let answer = instrument_writer::write(pairs::with_pairs(given, instrument), &mut bytes);
+    let answer = instrument_writer::write(pairs::with_pairs(rt, given, instrument), &mut bytes);
     if answer.refusal != 0 {
-        pairs::refuse(given, instrument, path, answer.refusal);
+        pairs::refuse(rt, given, instrument, path, answer.refusal);
         return REFUSED;
     }
-    if !is_free(out) {
+    if !is_free(rt, out) {
         return WRONG;
     }
-    replace_out(out, part(&bytes, 0, answer.length))
+    replace_out(rt, out, part(&bytes, 0, answer.length))
 }
 
-fn adjust(given: Arguments, path: &[u8], out: &[u8]) -> u8 {
-    let loaded = instrument_input::load(b"adjust", path);
+fn adjust(rt: &impl System, given: Arguments, path: &[u8], out: &[u8]) -> u8 {
+    let loaded = instrument_input::load(rt, b"adjust", path);
     if loaded.status != DONE {
         return loaded.status;
     }
-    if !pairs::are_there(given, loaded.instrument) {
+    if !pairs::are_there(rt, given, loaded.instrument) {
         return WRONG;
     }
-    write_adjusted(given, loaded.instrument, path, out)
+    write_adjusted(rt, given, loaded.instrument, path, out)
 }
 
 // ---- the command line
 
-fn adjust_into(given: Arguments, path: &[u8]) -> u8 {
-    let mut out = io::buffer();
-    let n = arguments::path_at(b"adjust", given, 1, b"OUT", &mut out);
+fn adjust_into(rt: &impl System, given: Arguments, path: &[u8]) -> u8 {
+    let mut out = [0u8; 4096];
+    let n = arguments::path_at(rt, b"adjust", given, 1, b"OUT", &mut out);
     if n == 0 {
         return WRONG;
     }
-    if !pairs::are_sound(given) {
+    if !pairs::are_sound(rt, given) {
         return WRONG;
     }
-    adjust(given, path, &out[..n])
+    adjust(rt, given, path, &out[..n])
 }
 
-fn adjust_file(given: Arguments) -> u8 {
-    let mut path = io::buffer();
-    let n = arguments::path_at(b"adjust", given, 0, b"INSTRUMENT", &mut path);
+fn adjust_file(rt: &impl System, given: Arguments) -> u8 {
+    let mut path = [0u8; 4096];
+    let n = arguments::path_at(rt, b"adjust", given, 0, b"INSTRUMENT", &mut path);
     if n == 0 {
         return WRONG;
     }
-    adjust_into(given, &path[..n])
+    adjust_into(rt, given, &path[..n])
 }
 
-fn run(given: Arguments) -> u8 {
+fn run(rt: &impl System, given: Arguments) -> u8 {
     if (given.count < 2) | (given.count % 2 != 0) {
-        io::write_all(
-            STDERR_FILENO,
-            b"usage: adjust INSTRUMENT OUT [KEY WEIGHT]..\n",
-        );
+        tell(rt, b"usage: adjust INSTRUMENT OUT [KEY WEIGHT]..\n");
         return WRONG;
     }
-    adjust_file(given)
+    adjust_file(rt, given)
 }
 
-fn main() {
-    let given = arguments::given();
-    let status = if streams::are_open(b"adjust") {
-        run(given)
+fn main(rt: HostRuntime) {
+    let given = arguments::given(&rt);
+    let status = if streams::are_open(&rt, b"adjust") {
+        run(&rt, given)
     } else {
         WRONG
     };

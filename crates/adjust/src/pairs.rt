@@ -1,9 +1,10 @@
 // The pairs KEY WEIGHT of the command line. They are as many as the system takes, so no table holds them: each pass reads their words anew.
 use instrument::Instrument;
 use little_endian::part;
-use program::arguments::Arguments;
+use program::arguments::{Arguments, word};
 use program::message::complain_of_word;
 use program::streams;
+use program::system::System;
 use std::num::wrapping_add_usize;
 use text::lines::row;
 use text::{Number, Real, put, put_counted};
@@ -71,11 +72,11 @@ fn with_key(key: u64, weight: Real) -> Pair {
 }
 
 // A word that is too long for the bytes counts as an empty one.
-fn pair_at(given: Arguments, i: usize) -> Pair {
-    let mut bytes = io::buffer();
-    let n = os::arg(key_place(given, i), &mut bytes);
+fn pair_at(rt: &impl System, given: Arguments, i: usize) -> Pair {
+    let mut bytes = [0u8; 4096];
+    let n = word(rt, key_place(given, i), &mut bytes);
     let key = text::number_of(part(&bytes, 0, n));
-    let m = os::arg(weight_place(given, i), &mut bytes);
+    let m = word(rt, weight_place(given, i), &mut bytes);
     let weight = text::real_of(part(&bytes, 0, m));
     match key {
         Number::Value(k) => with_key(k, weight),
@@ -100,14 +101,15 @@ fn is_none(flaw: Flaw) -> bool {
 }
 
 // By the word that it is wrong with.
-fn complain_of_pair(given: Arguments, i: usize, flaw: Flaw) {
+fn complain_of_pair(rt: &impl System, given: Arguments, i: usize, flaw: Flaw) {
     let place = match flaw {
         Flaw::NoWeight => weight_place(given, i),
         _ => key_place(given, i),
     };
-    let mut bytes = io::buffer();
-    let n = os::arg(place, &mut bytes);
+    let mut bytes = [0u8; 4096];
+    let n = word(rt, place, &mut bytes);
     complain_of_word(
+        rt,
         b"adjust",
         part(&bytes, 0, n),
         row(b"KEY\nWEIGHT\nKEY\nKEY\n", row_of(flaw)),
@@ -137,12 +139,12 @@ fn flaw_of(pair: Pair, named: &mut [bool; 256]) -> Flaw {
 }
 
 // Whether each pair is a key and a weight, and no key comes twice; else the first word that is wrong is named.
-pub fn are_sound(given: Arguments) -> bool {
+pub fn are_sound(rt: &impl System, given: Arguments) -> bool {
     let mut named = [false; 256];
     for i in 0..pair_count(given) {
-        let flaw = flaw_of(pair_at(given, i), &mut named);
+        let flaw = flaw_of(pair_at(rt, given, i), &mut named);
         if !is_none(flaw) {
-            complain_of_pair(given, i, flaw);
+            complain_of_pair(rt, given, i, flaw);
             return false;
         }
     }
@@ -150,11 +152,11 @@ pub fn are_sound(given: Arguments) -> bool {
 }
 
 // Whether the instrument has all of the keys; else the first that it has not is named.
-pub fn are_there(given: Arguments, instrument: Instrument) -> bool {
+pub fn are_there(rt: &impl System, given: Arguments, instrument: Instrument) -> bool {
     for i in 0..pair_count(given) {
-        let pair = pair_at(given, i);
+        let pair = pair_at(rt, given, i);
         if !weights::has_key(instrument, pair.key) {
-            complain_of_pair(given, i, Flaw::Absent);
+            complain_of_pair(rt, given, i, Flaw::Absent);
             return false;
         }
     }
@@ -168,20 +170,20 @@ fn with_pair(instrument: Instrument, pair: Pair) -> Instrument {
 }
 
 // The instrument with all of the weights.
-pub fn with_pairs(given: Arguments, instrument: Instrument) -> Instrument {
+pub fn with_pairs(rt: &impl System, given: Arguments, instrument: Instrument) -> Instrument {
     let mut next = instrument;
     for i in 0..pair_count(given) {
-        let more = with_pair(next, pair_at(given, i));
+        let more = with_pair(next, pair_at(rt, given, i));
         next = more;
     }
     next
 }
 
 // The first pair that alone makes the record wrong, or how many pairs there are.
-fn first_refused(given: Arguments, instrument: Instrument) -> usize {
+fn first_refused(rt: &impl System, given: Arguments, instrument: Instrument) -> usize {
     let pairs = pair_count(given);
     for i in 0..pairs {
-        if !instrument::is_valid(with_pair(instrument, pair_at(given, i))) {
+        if !instrument::is_valid(with_pair(instrument, pair_at(rt, given, i))) {
             return i;
         }
     }
@@ -189,10 +191,16 @@ fn first_refused(given: Arguments, instrument: Instrument) -> usize {
 }
 
 // `refused NUMBER: ..`, with the weight and the key of pair i. A word that is a weight has at most 18 bytes.
-fn put_weight_refusal(line: &mut [u8], given: Arguments, i: usize, refusal: u32) -> usize {
-    let pair = pair_at(given, i);
-    let mut bytes = io::buffer();
-    let n = os::arg(weight_place(given, i), &mut bytes);
+fn put_weight_refusal(
+    rt: &impl System,
+    line: &mut [u8],
+    given: Arguments,
+    i: usize,
+    refusal: u32,
+) -> usize {
+    let pair = pair_at(rt, given, i);
+    let mut bytes = [0u8; 4096];
+    let n = word(rt, weight_place(given, i), &mut bytes);
     let a = put_counted(line, 0, b"refused ", refusal as u64);
     let b = put(line, a, b": the weight ");
     let c = put(line, b, part(&bytes, 0, n));
@@ -201,13 +209,19 @@ fn put_weight_refusal(line: &mut [u8], given: Arguments, i: usize, refusal: u32)
 }
 
 // The writer's refusal, and which weight it is due to: the record test itself tells, asked with each pair alone.
-pub fn refuse(given: Arguments, instrument: Instrument, path: &[u8], refusal: u32) {
-    let i = first_refused(given, instrument);
+pub fn refuse(
+    rt: &impl System,
+    given: Arguments,
+    instrument: Instrument,
+    path: &[u8],
+    refusal: u32,
+) {
+    let i = first_refused(rt, given, instrument);
     if i == pair_count(given) {
-        instrument_input::answer_refusal(b"adjust", path, refusal);
+        instrument_input::answer_refusal(rt, b"adjust", path, refusal);
         return;
     }
     let mut line = [0u8; 128];
-    let n = put_weight_refusal(&mut line, given, i, refusal);
-    streams::write_answer(b"adjust", path, &mut line, n);
+    let n = put_weight_refusal(rt, &mut line, given, i, refusal);
+    streams::write_answer(rt, b"adjust", path, &mut line, n);
 }

@@ -3,12 +3,12 @@
 ghost use Rattle.std.specs.Prelude.{◌≡◌, ◌≤◌, min, length};
 
 use program::floats::read_floats;
+use program::input::Source;
 use program::wave;
 use program::wave::Wave;
 
 #[derive(Clone, Copy)]
 pub struct Plan {
-    pub source: i32,
     pub start: u64,
     pub count: usize,
     pub factor: usize,
@@ -63,7 +63,7 @@ fn window_of(count: usize, stride: usize, at: usize) -> Window
 
 // The window's samples, at the start of `samples`.
 fn read_window(
-    source: i32,
+    source: &mut Source,
     start: u64,
     window: Window,
     samples: &mut [f64],
@@ -96,47 +96,33 @@ fn thin(factor: usize, taps: &[f64; 127], samples: &[f64], n: usize, outputs: &m
     room
 }
 
-// How far the output is, and whether the input could be read.
-#[derive(Clone, Copy)]
-pub struct Thinned {
-    pub wave: Wave,
-    pub is_read: bool,
-}
-
-fn unread(wave: Wave) -> Thinned {
-    Thinned {
-        wave,
-        is_read: false,
-    }
-}
-
 // `kept` of the outputs that were made, from `dropped` on; false where there are not as many.
 fn append_outputs(
-    wave: Wave,
+    wave: &mut Wave,
     outputs: &[f64],
     made: usize,
     dropped: usize,
     kept: usize,
     bytes: &mut [u8; 16384],
-) -> Thinned {
+) -> bool {
     if outputs.len() < made {
-        return unread(wave);
+        return false;
     }
     if made < dropped {
-        return unread(wave);
+        return false;
     }
     if made - dropped < kept {
-        return unread(wave);
+        return false;
     }
     let end = dropped + kept;
-    Thinned {
-        wave: wave::append(wave, &outputs[dropped..end], bytes),
-        is_read: true,
-    }
+    wave::append(wave, &outputs[dropped..end], bytes);
+    true
 }
 
+// Whether the block's samples could be read.
 fn append_block(
-    wave: Wave,
+    wave: &mut Wave,
+    source: &mut Source,
     plan: Plan,
     taps: &[f64; 127],
     at: usize,
@@ -144,18 +130,13 @@ fn append_block(
     samples: &mut [f64],
     outputs: &mut [f64],
     bytes: &mut [u8; 16384],
-) -> Thinned {
+) -> bool {
     let window = window_of(plan.count, stride_of(plan.factor), at);
-    if !read_window(plan.source, plan.start, window, samples, bytes) {
-        return unread(wave);
+    if !read_window(source, plan.start, window, samples, bytes) {
+        return false;
     }
     let made = thin(plan.factor, taps, samples, window.samples, outputs);
     append_outputs(wave, outputs, made, window.dropped, kept, bytes)
-}
-
-fn is_over(thinned: Thinned) -> bool {
-    let wave = thinned.wave;
-    !thinned.is_read | (wave.error != 0)
 }
 
 // The largest window: 126 outputs' worth of 64 samples, and 64 samples.
@@ -165,30 +146,28 @@ fn sample_space() -> [f64; 8128]
     [0.0; 8128]
 }
 
-// All outputs, block after block, until a read or a write fails.
-pub fn append_all(begun: Wave, plan: Plan, taps: &[f64; 127]) -> Thinned {
+// All outputs, block after block, until a read or a write fails; whether the input could be read.
+pub fn append_all(wave: &mut Wave, source: &mut Source, plan: Plan, taps: &[f64; 127]) -> bool {
     let mut sample_cells = sample_space();
     let samples: &mut [f64] = &mut sample_cells;
     let mut output_cells = [0.0; 256];
     let outputs: &mut [f64] = &mut output_cells;
     let mut bytes = [0u8; 16384];
     let block = BLOCK * stride_of(plan.factor);
-    let mut thinned = Thinned {
-        wave: begun,
-        is_read: true,
-    };
     let mut at = 0usize;
     let mut done = 0usize;
     while done < plan.outputs {
-        if is_over(thinned) {
-            return thinned;
+        if wave.error != 0 {
+            return true;
         }
         let kept = least(plan.outputs - done, BLOCK);
-        let wave = thinned.wave;
-        let next = append_block(wave, plan, taps, at, kept, samples, outputs, &mut bytes);
-        thinned = next;
+        if !append_block(
+            wave, source, plan, taps, at, kept, samples, outputs, &mut bytes,
+        ) {
+            return false;
+        }
         at = std::num::wrapping_add_usize(at, block);
         done += kept;
     }
-    thinned
+    true
 }

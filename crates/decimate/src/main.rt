@@ -5,13 +5,14 @@
 mod blocks;
 mod wave_in;
 
-use blocks::{Plan, Thinned};
+use blocks::Plan;
 use file_status::FileStatus;
 use little_endian::part;
 use program::arguments::{Arguments, DONE, WRONG};
-use program::input::Input;
-use program::message::{complain, complain_of, complain_of_word};
+use program::input::{Input, Source};
+use program::message::{complain, complain_of, complain_of_word, tell};
 use program::output::{InUse, Output};
+use program::system::System;
 use program::{arguments, input, output, streams, wave};
 use std::num::wrapping_add_usize;
 use text::{Number, put_counted};
@@ -46,8 +47,8 @@ fn thinned_rate(rate: u64, factor: u64) -> u64 {
     std::num::wrapping_add_u64(rate, factor / 2) / factor
 }
 
-// One line on standard output; false where it cannot be written.
-fn summarise(count: u64, rate: u64, factor: u64, outputs: u64) -> bool {
+// One line on standard output; the system's number where it cannot be written, or 0.
+fn summarise(rt: &impl System, count: u64, rate: u64, factor: u64, outputs: u64) -> i32 {
     let mut line = [0u8; 256];
     let a = put_counted(&mut line, 0, b"", count);
     let b = put_counted(&mut line, a, b" samples at ", rate);
@@ -55,48 +56,61 @@ fn summarise(count: u64, rate: u64, factor: u64, outputs: u64) -> bool {
     let d = put_counted(&mut line, c, b": ", outputs);
     let e = put_counted(&mut line, d, b" samples at ", thinned_rate(rate, factor));
     let end = text::put(&mut line, e, b" Hz\n");
-    io::write_all(libc::STDOUT_FILENO, part(&line, 0, end))
+    let written = output::write(&mut rt.answers(), part(&line, 0, end));
+    written.error
+}
+
+// How the work ended: the system's number where a write failed, or 0, and whether the input could be read.
+#[derive(Clone, Copy)]
+struct Ending {
+    error: i32,
+    is_read: bool,
 }
 
 // What was written, or what is wrong, and the status.
-fn report(input: &[u8], output: &[u8], plan: Plan, rate: u64, thinned: Thinned) -> u8 {
-    let wave = thinned.wave;
-    if wave.error != 0 {
-        complain_of(b"decimate", output, wave.error);
+fn report(
+    rt: &impl System,
+    input: &[u8],
+    output: &[u8],
+    plan: Plan,
+    rate: u64,
+    ending: Ending,
+) -> u8 {
+    if ending.error != 0 {
+        complain_of(rt, b"decimate", output, ending.error);
         return WRONG;
     }
-    if !thinned.is_read {
-        complain(b"decimate", input, b"it could not be read to its end");
+    if !ending.is_read {
+        complain(rt, b"decimate", input, b"it could not be read to its end");
         return WRONG;
     }
-    if summarise(
+    let error = summarise(
+        rt,
         plan.count as u64,
         rate,
         plan.factor as u64,
         plan.outputs as u64,
-    ) {
+    );
+    if error == 0 {
         return DONE;
     }
-    complain_of(b"decimate", b"standard output", os::errno());
+    complain_of(rt, b"decimate", b"standard output", error);
     WRONG
 }
 
-fn write_plan(
-    plan: Plan,
-    rate: u64,
-    taps: &[f64; 127],
-    out: Output,
-    input: &[u8],
-    output: &[u8],
-) -> u8 {
-    let begun = wave::begin(out, thinned_rate(rate, plan.factor as u64));
-    let thinned = blocks::append_all(begun, plan, taps);
-    libc::close(out.fd);
-    report(input, output, plan, rate, thinned)
+// The whole of OUT, which is then closed.
+fn write_out(source: &mut Source, plan: Plan, rate: u64, taps: &[f64; 127], out: Output) -> Ending {
+    let mut wave = wave::begin(out, thinned_rate(rate, plan.factor as u64));
+    let is_read = blocks::append_all(&mut wave, source, plan, taps);
+    Ending {
+        error: wave.error,
+        is_read,
+    }
 }
 
-fn is_free(output: &[u8], used: InUse) -> bool {
+fn is_free(rt: &impl System, output: &[u8], used: InUse) -> bool {
     output::is_apart(
+        rt,
         b"decimate",
         output,
         used,
@@ -110,53 +124,60 @@ fn is_free(output: &[u8], used: InUse) -> bool {
 
 // Writes OUT once all that it is made of is known to be there.
 fn write_wave(
-    source: Input,
+    rt: &impl System,
+    source: &mut Source,
+    files: [FileStatus; 2],
     signal: Signal,
-    tap_file: FileStatus,
     taps: &[f64; 127],
     factor: usize,
     input: &[u8],
     output: &[u8],
 ) -> u8 {
-    let used = output::in_use(source.file, tap_file);
-    if !output::are_streams_apart(b"decimate", used) {
+    let used = output::in_use(rt, files[0], files[1]);
+    if !output::are_streams_apart(rt, b"decimate", used) {
         return WRONG;
     }
-    if !is_free(output, used) {
+    if !is_free(rt, output, used) {
         return WRONG;
     }
-    let out = output::open(b"decimate", output);
-    if out.fd < 0 {
+    let out = output::open(rt, b"decimate", output);
+    if !output::is_open(&out) {
         return WRONG;
     }
     let plan = Plan {
-        source: source.fd,
         start: signal.start,
         count: signal.count,
         factor,
         outputs: decimator::output_length(signal.count, factor),
     };
-    write_plan(plan, signal.rate, taps, out, input, output)
+    let ending = write_out(source, plan, signal.rate, taps, out);
+    report(rt, input, output, plan, signal.rate, ending)
 }
 
-fn run(input: &[u8], tap_path: &[u8], factor: usize, output: &[u8]) -> u8 {
-    let source = input::open(b"decimate", input);
-    if source.fd < 0 {
-        return WRONG;
-    }
-    let signal = wave_in::find_samples(source.fd, input);
+fn run_from(
+    rt: &impl System,
+    opened: Input,
+    input: &[u8],
+    tap_path: &[u8],
+    factor: usize,
+    output: &[u8],
+) -> u8 {
+    let file = opened.file;
+    let mut source = opened.source;
+    let signal = wave_in::find_samples(rt, &mut source, input);
     if !signal.found {
         return WRONG;
     }
     let mut taps = [0.0; 127];
-    let tap_source = wave_in::read_taps(tap_path, &mut taps);
-    if tap_source.fd < 0 {
+    let tap_file = wave_in::read_taps(rt, tap_path, &mut taps);
+    if !tap_file.is_taken {
         return WRONG;
     }
     write_wave(
-        source,
+        rt,
+        &mut source,
+        [file, tap_file.file],
         signal,
-        tap_source.file,
         &taps,
         factor,
         input,
@@ -164,61 +185,66 @@ fn run(input: &[u8], tap_path: &[u8], factor: usize, output: &[u8]) -> u8 {
     )
 }
 
-fn run_into(given: Arguments, input: &[u8], taps: &[u8], factor: usize) -> u8 {
-    let mut output = io::buffer();
-    let n = arguments::path_at(b"decimate", given, 3, b"OUT.wav", &mut output);
+fn run(rt: &impl System, input: &[u8], tap_path: &[u8], factor: usize, output: &[u8]) -> u8 {
+    let opened = input::open(rt, b"decimate", input);
+    if !input::is_open(&opened) {
+        return WRONG;
+    }
+    run_from(rt, opened, input, tap_path, factor, output)
+}
+
+fn run_into(rt: &impl System, given: Arguments, input: &[u8], taps: &[u8], factor: usize) -> u8 {
+    let mut output = [0u8; 4096];
+    let n = arguments::path_at(rt, b"decimate", given, 3, b"OUT.wav", &mut output);
     if n == 0 {
         return WRONG;
     }
-    run(input, taps, factor, &output[..n])
+    run(rt, input, taps, factor, &output[..n])
 }
 
-fn refuse_factor(word: &[u8], words: &[u8]) -> u8 {
-    complain_of_word(b"decimate", word, b"FACTOR", words);
+fn refuse_factor(rt: &impl System, word: &[u8], words: &[u8]) -> u8 {
+    complain_of_word(rt, b"decimate", word, b"FACTOR", words);
     WRONG
 }
 
-fn run_by_factor(given: Arguments, input: &[u8], taps: &[u8]) -> u8 {
-    let mut bytes = io::buffer();
-    let n = os::arg(wrapping_add_usize(given.first, 2), &mut bytes);
+fn run_by_factor(rt: &impl System, given: Arguments, input: &[u8], taps: &[u8]) -> u8 {
+    let mut bytes = [0u8; 4096];
+    let n = arguments::word(rt, wrapping_add_usize(given.first, 2), &mut bytes);
     let word = part(&bytes, 0, n);
     let factor = factor_of(word);
     match factor {
-        Factor::Of(k) => run_into(given, input, taps, k),
-        Factor::TooHigh => refuse_factor(word, b"refused 17: the factor exceeds 64"),
-        Factor::NoNumber => refuse_factor(word, b"the factor is no whole number"),
+        Factor::Of(k) => run_into(rt, given, input, taps, k),
+        Factor::TooHigh => refuse_factor(rt, word, b"refused 17: the factor exceeds 64"),
+        Factor::NoNumber => refuse_factor(rt, word, b"the factor is no whole number"),
     }
 }
 
-fn run_on_taps(given: Arguments, input: &[u8]) -> u8 {
-    let mut taps = io::buffer();
-    let n = arguments::path_at(b"decimate", given, 1, b"TAPS", &mut taps);
+fn run_on_taps(rt: &impl System, given: Arguments, input: &[u8]) -> u8 {
+    let mut taps = [0u8; 4096];
+    let n = arguments::path_at(rt, b"decimate", given, 1, b"TAPS", &mut taps);
     if n == 0 {
         return WRONG;
     }
-    run_by_factor(given, input, &taps[..n])
+    run_by_factor(rt, given, input, &taps[..n])
 }
 
-fn run_on_files(given: Arguments) -> u8 {
+fn run_on_files(rt: &impl System, given: Arguments) -> u8 {
     if given.count != 4 {
-        io::write_all(
-            libc::STDERR_FILENO,
-            b"usage: decimate IN.wav TAPS FACTOR OUT.wav\n",
-        );
+        tell(rt, b"usage: decimate IN.wav TAPS FACTOR OUT.wav\n");
         return WRONG;
     }
-    let mut input = io::buffer();
-    let n = arguments::path_at(b"decimate", given, 0, b"IN.wav", &mut input);
+    let mut input = [0u8; 4096];
+    let n = arguments::path_at(rt, b"decimate", given, 0, b"IN.wav", &mut input);
     if n == 0 {
         return WRONG;
     }
-    run_on_taps(given, &input[..n])
+    run_on_taps(rt, given, &input[..n])
 }
 
-fn main() {
-    let given = arguments::given();
-    let status = if streams::are_open(b"decimate") {
-        run_on_files(given)
+fn main(rt: HostRuntime) {
+    let given = arguments::given(&rt);
+    let status = if streams::are_open(&rt, b"decimate") {
+        run_on_files(&rt, given)
     } else {
         WRONG
     };

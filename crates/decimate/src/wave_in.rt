@@ -1,8 +1,10 @@
 // The input files: where a WAV file's samples lie, and the taps.
+use file_status::FileStatus;
 use program::floats::read_at;
 use program::input;
-use program::input::Input;
+use program::input::Source;
 use program::message::{complain, complain_of};
+use program::system::System;
 use text::lines::row;
 use wav::Chunk;
 
@@ -57,9 +59,9 @@ fn stopped(search: Search) -> Place {
 }
 
 // The format that the chunk `fmt ` at `at` holds, and the chunk after it.
-fn read_format(fd: i32, at: u64, next: u64) -> Place {
+fn read_format(source: &mut Source, at: u64, next: u64) -> Place {
     let mut b = [0u8; 16];
-    if !read_at(fd, &mut b, at) {
+    if !read_at(source, &mut b, at) {
         return stopped(Search::NoData);
     }
     let format = wav::format_of(&b);
@@ -88,9 +90,9 @@ fn data_at(place: Place, at: u64, size: u64) -> Place {
 }
 
 // One chunk on; other chunks are passed over, with the byte that fills an odd one up.
-fn pass_chunk(fd: i32, place: Place) -> Place {
+fn pass_chunk(source: &mut Source, place: Place) -> Place {
     let mut b = [0u8; 8];
-    if !read_at(fd, &mut b, place.at) {
+    if !read_at(source, &mut b, place.at) {
         return stopped(Search::NoData);
     }
     let size = wide(wav::chunk_size(&b));
@@ -98,7 +100,7 @@ fn pass_chunk(fd: i32, place: Place) -> Place {
     let next = after(after(at, size), size % 2);
     let chunk = wav::chunk_of(&b);
     match chunk {
-        Chunk::Format => read_format(fd, at, next),
+        Chunk::Format => read_format(source, at, next),
         Chunk::Data => data_at(place, at, size),
         Chunk::Other => {
             let search = place.search;
@@ -121,7 +123,7 @@ fn is_over(search: Search) -> bool {
 }
 
 // No file of 32-bit sizes has more chunks than turns.
-fn search_chunks(fd: i32) -> Place {
+fn search_chunks(source: &mut Source) -> Place {
     let mut place = Place {
         search: Search::Unformatted,
         rate: 0,
@@ -133,23 +135,23 @@ fn search_chunks(fd: i32) -> Place {
         if is_over(search) {
             return place;
         }
-        let next = pass_chunk(fd, place);
+        let next = pass_chunk(source, place);
         place = next;
     }
     stopped(Search::NoData)
 }
 
 // Whether the file has its `size` bytes from `at` on: whether the last of them can be read.
-fn is_there(fd: i32, at: u64, size: u64) -> bool {
+fn is_there(source: &mut Source, at: u64, size: u64) -> bool {
     if size == 0 {
         return true;
     }
     let mut b = [0u8; 1];
-    read_at(fd, &mut b, after(at, size - 1))
+    read_at(source, &mut b, after(at, size - 1))
 }
 
 // The samples' number, and that they are all there.
-fn measured(fd: i32, place: Place) -> Place {
+fn measured(source: &mut Source, place: Place) -> Place {
     let size = place.size;
     if size % 8 != 0 {
         return stopped(Search::Uneven);
@@ -157,24 +159,24 @@ fn measured(fd: i32, place: Place) -> Place {
     if 0x80_0000 < size {
         return stopped(Search::TooLong);
     }
-    if !is_there(fd, place.at, size) {
+    if !is_there(source, place.at, size) {
         return stopped(Search::CutShort);
     }
     place
 }
 
-fn located(fd: i32) -> Place {
+fn located(source: &mut Source) -> Place {
     let mut b = [0u8; 12];
-    if !read_at(fd, &mut b, 0) {
+    if !read_at(source, &mut b, 0) {
         return stopped(Search::NotWave);
     }
     if !wav::is_wave(&b) {
         return stopped(Search::NotWave);
     }
-    let place = search_chunks(fd);
+    let place = search_chunks(source);
     let search = place.search;
     match search {
-        Search::Found => measured(fd, place),
+        Search::Found => measured(source, place),
         _ => place,
     }
 }
@@ -192,8 +194,9 @@ fn row_of(search: Search) -> u64 {
 }
 
 // What is wrong with a file: a row each.
-fn complain_of_search(path: &[u8], search: Search) {
+fn complain_of_search(rt: &impl System, path: &[u8], search: Search) {
     complain(
+        rt,
         b"decimate",
         path,
         row(
@@ -211,8 +214,8 @@ fn complain_of_search(path: &[u8], search: Search) {
 }
 
 // Where a file's samples are, or what is wrong with it.
-pub fn find_samples(fd: i32, path: &[u8]) -> Signal {
-    let place = located(fd);
+pub fn find_samples(rt: &impl System, source: &mut Source, path: &[u8]) -> Signal {
+    let place = located(source);
     let search = place.search;
     match search {
         Search::Found => Signal {
@@ -222,7 +225,7 @@ pub fn find_samples(fd: i32, path: &[u8]) -> Signal {
             count: (place.size / 8) as usize,
         },
         _ => {
-            complain_of_search(path, search);
+            complain_of_search(rt, path, search);
             Signal {
                 found: false,
                 rate: 0,
@@ -234,15 +237,16 @@ pub fn find_samples(fd: i32, path: &[u8]) -> Signal {
 }
 
 // The 127 taps, or what is wrong with them.
-fn take_taps(fd: i32, path: &[u8], taps: &mut [f64; 127]) -> bool {
-    let mut b = io::buffer();
-    let read = input::read_all(fd, &mut b);
+fn take_taps(rt: &impl System, source: &mut Source, path: &[u8], taps: &mut [f64; 127]) -> bool {
+    let mut b = [0u8; 4096];
+    let read = input::read_all(source, &mut b);
     if read.error != 0 {
-        complain_of(b"decimate", path, read.error);
+        complain_of(rt, b"decimate", path, read.error);
         return false;
     }
     if read.count != 1016 {
         complain(
+            rt,
             b"decimate",
             path,
             b"refused 18: there aren't 127 taps (1,016 bytes)",
@@ -253,17 +257,26 @@ fn take_taps(fd: i32, path: &[u8], taps: &mut [f64; 127]) -> bool {
     true
 }
 
-// The same of a file by its name; the descriptor is below 0 where there are none.
-pub fn read_taps(path: &[u8], taps: &mut [f64; 127]) -> Input {
-    let source = input::open(b"decimate", path);
-    if source.fd < 0 {
-        return source;
+// The taps' file, which is closed again; `is_taken` is false where there are none, and then it has been said.
+#[derive(Clone, Copy)]
+pub struct TapFile {
+    pub is_taken: bool,
+    pub file: FileStatus,
+}
+
+// The same of a file by its name.
+pub fn read_taps(rt: &impl System, path: &[u8], taps: &mut [f64; 127]) -> TapFile {
+    let opened = input::open(rt, b"decimate", path);
+    let file = opened.file;
+    if !input::is_open(&opened) {
+        return TapFile {
+            is_taken: false,
+            file,
+        };
     }
-    let is_taken = take_taps(source.fd, path, taps);
-    libc::close(source.fd);
-    let file = source.file;
-    Input {
-        fd: if is_taken { 0 } else { -1 },
+    let mut source = opened.source;
+    TapFile {
+        is_taken: take_taps(rt, &mut source, path, taps),
         file,
     }
 }

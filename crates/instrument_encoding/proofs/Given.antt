@@ -1,9 +1,9 @@
 -- What owning a value of the record's types tells: every premise of the laws. Assumes nothing.
-use mathlib.Core.Path.{◌≡◌, sym, ap, ◌∙◌}
-use mathlib.Core.List.{List, [], ◌∷◌, map}
+use mathlib.Core.Path.{◌≡◌}
+use mathlib.Core.List.{List, [], ◌∷◌}
 use Prim.Native.Nat.{ℕ, zero, suc, ◌<◌}
 use native.Mathlib.Omega.{arith}
-use lib.ListN.{length, get_or, length-map}
+use lib.ListN.{length, get_or}
 use mir.Val.{Val}
 use base.Fml.{Fml}
 use denote.Array.{each}
@@ -22,13 +22,13 @@ use Rattle.instrument.specs.contracts.Instrument as InstrumentType
 use Rattle.instrument.specs.Valid.{past_key, past_string}
 use Rattle.instrument_encoding.specs.Typed.{FitCommon, FitKey, FitString, Typed}
 
--- an element of an array of structs, which stands there as the tuple of its fields
-each_at : {C D : Type 0} (to : C → D) (own : D → List Val → Fml) (xs : List C) (us : List Val) → shadow (each D own (map to xs) us) → (k : ℕ) (z : C) → k < length xs
-    → (v : Val) × shadow (own (to (get_or xs k z)) (v ∷ []))
-each_at to own [] us g k z h = absurd (omega arith)
-each_at to own (x ∷ xs) [] g k z h = absurd g
-each_at to own (x ∷ xs) (u ∷ us) g zero z h = (u, g.0)
-each_at to own (x ∷ xs) (u ∷ us) g (suc k) z h = each_at to own xs us g.1 k z (omega arith)
+-- an element of an array of structs
+each_at : {D : Type 0} (own : D → List Val → Fml) (xs : List D) (us : List Val) → shadow (each D own xs us) → (k : ℕ) (z : D) → k < length xs
+    → (v : Val) × shadow (own (get_or xs k z) (v ∷ []))
+each_at own [] us g k z h = absurd (omega arith)
+each_at own (x ∷ xs) [] g k z h = absurd g
+each_at own (x ∷ xs) (u ∷ us) g zero z h = (u, g.0)
+each_at own (x ∷ xs) (u ∷ us) g (suc k) z h = each_at own xs us g.1 k z (omega arith)
 
 fit_common : (c : Common) (vs : List Val) → Is (Declared.row CommonType.the_type) c vs → FitCommon c
 fit_common c vs g =
@@ -75,12 +75,12 @@ typed i vs g =
     let o = g.1.1 in
     let keys = o.1.1.1.0.1 in
     let strings = o.1.1.1.1.0.1 in
-    let keys_long : length i.keys ≡ 16 = sym (length-map i.keys (KeyType.the_field).into) ∙ keys.0.1 in
-    let strings_long : length i.strings ≡ 32 = sym (length-map i.strings (LoopType.the_field).into) ∙ strings.0.1 in
+    let keys_long : length i.keys ≡ 16 = keys.0.1 in
+    let strings_long : length i.strings ≡ 32 = strings.0.1 in
     record {
       common = fit_common i.common _ o.0;
       keys_long = keys_long;
       strings_long = strings_long;
-      key = λ k h. fit_key _ _ (each_at (KeyType.the_field).into (KeyType.the_field).row.own_val i.keys _ keys.1 k past_key (omega arith)).1;
-      string = λ j h. fit_string _ _ (each_at (LoopType.the_field).into (LoopType.the_field).row.own_val i.strings _ strings.1 j past_string (omega arith)).1;
+      key = λ k h. fit_key _ _ (each_at (KeyType.the_row).own_val i.keys _ keys.1 k past_key (omega arith)).1;
+      string = λ j h. fit_string _ _ (each_at (LoopType.the_row).own_val i.strings _ strings.1 j past_string (omega arith)).1;
     }

@@ -7,7 +7,9 @@ use little_endian::{part, u32_at};
 use program::arguments::{DONE, REFUSED, WRONG};
 use program::input::Input;
 use program::message::complain_of;
+use program::system::System;
 use program::{input, kind, output, streams};
+use std::io::Read;
 use std::num::wrapping_add_u64;
 
 // An instrument where `status` is DONE.
@@ -29,14 +31,20 @@ fn without(status: u8, file: FileStatus) -> Loaded {
 }
 
 // The refusal's line of answer.
-pub fn answer_refusal(program: &[u8], path: &[u8], refusal: u32) {
+pub fn answer_refusal(rt: &impl System, program: &[u8], path: &[u8], refusal: u32) {
     let mut line = [0u8; 128];
     let n = text::put_refusal(&mut line, refusal as u64);
-    streams::write_answer(program, path, &mut line, n);
+    streams::write_answer(rt, program, path, &mut line, n);
 }
 
 // The file's instrument, or its refusal as the one line of answer.
-pub fn accept(program: &[u8], path: &[u8], bytes: &[u8], file: FileStatus) -> Loaded {
+pub fn accept(
+    rt: &impl System,
+    program: &[u8],
+    path: &[u8],
+    bytes: &[u8],
+    file: FileStatus,
+) -> Loaded {
     let answer = instrument_file::read(bytes);
     let instrument = answer.instrument;
     if answer.refusal == 0 {
@@ -46,7 +54,7 @@ pub fn accept(program: &[u8], path: &[u8], bytes: &[u8], file: FileStatus) -> Lo
             file,
         };
     }
-    answer_refusal(program, path, answer.refusal);
+    answer_refusal(rt, program, path, answer.refusal);
     without(REFUSED, file)
 }
 
@@ -116,35 +124,41 @@ fn size_of(file: FileStatus) -> i64 {
 
 // ---- reading
 
-fn read(program: &[u8], path: &[u8], fd: i32, file: FileStatus) -> Loaded {
+fn read<S: Read>(
+    rt: &impl System,
+    program: &[u8],
+    path: &[u8],
+    source: &mut S,
+    file: FileStatus,
+) -> Loaded {
     let mut bytes = [0u8; 8192];
-    let read = input::read_all(fd, &mut bytes);
+    let read = input::read_all(source, &mut bytes);
     if read.error != 0 {
-        complain_of(program, path, read.error);
+        complain_of(rt, program, path, read.error);
         return without(WRONG, file);
     }
     if 8192 <= read.count {
-        answer_refusal(program, path, refusal_of_long(&bytes, size_of(file)));
+        answer_refusal(rt, program, path, refusal_of_long(&bytes, size_of(file)));
         return without(REFUSED, file);
     }
-    accept(program, path, part(&bytes, 0, read.count), file)
+    accept(rt, program, path, part(&bytes, 0, read.count), file)
 }
 
 // Answers and messages may not go into the file, which is asked before it can be refused: the refusal would go there too.
-fn load_from(program: &[u8], path: &[u8], source: Input) -> Loaded {
-    let used = output::in_use(source.file, source.file);
-    if !output::are_streams_apart(program, used) {
-        return without(WRONG, source.file);
+fn load_from(rt: &impl System, program: &[u8], path: &[u8], opened: Input) -> Loaded {
+    let file = opened.file;
+    let used = output::in_use(rt, file, file);
+    if !output::are_streams_apart(rt, program, used) {
+        return without(WRONG, file);
     }
-    read(program, path, source.fd, source.file)
+    let mut source = opened.source;
+    read(rt, program, path, &mut source, file)
 }
 
-pub fn load(program: &[u8], path: &[u8]) -> Loaded {
-    let source = input::open(program, path);
-    if source.fd < 0 {
-        return without(WRONG, source.file);
+pub fn load(rt: &impl System, program: &[u8], path: &[u8]) -> Loaded {
+    let opened = input::open(rt, program, path);
+    if !input::is_open(&opened) {
+        return without(WRONG, opened.file);
     }
-    let loaded = load_from(program, path, source);
-    libc::close(source.fd);
-    loaded
+    load_from(rt, program, path, opened)
 }

@@ -1,9 +1,10 @@
 // Floats in files, eight bytes each, in chunks that a small buffer holds.
 ghost use Rattle.std.specs.Prelude.{◌<◌, ◌≤◌};
 
-use crate::input::offset_of;
+use crate::input::{offset_of, read_all};
 use crate::output;
 use crate::output::Written;
+use std::io::{Read, Seek, SeekFrom, Write};
 use std::num::{wrapping_add_u64, wrapping_add_usize};
 
 // How many floats go into one read or write: as many as the bytes hold.
@@ -16,18 +17,18 @@ fn chunk_end(at: usize, end: usize) -> usize
     if end - at < CHUNK { end } else { at + CHUNK }
 }
 
-fn write_some(fd: i32, floats: &[f64], bytes: &mut [u8]) -> Written {
+fn write_some<W: Write>(to: &mut W, floats: &[f64], bytes: &mut [u8]) -> Written {
     let n = wav::put_samples(floats, bytes);
-    output::write(fd, &bytes[0..n])
+    output::write(to, &bytes[0..n])
 }
 
 // Floats, eight bytes each; how many bytes went out.
-pub fn write_floats(fd: i32, floats: &[f64], bytes: &mut [u8; 16384]) -> Written {
+pub fn write_floats<W: Write>(to: &mut W, floats: &[f64], bytes: &mut [u8; 16384]) -> Written {
     let mut at = 0usize;
     let mut count = 0usize;
     while at < floats.len() {
         let stop = chunk_end(at, floats.len());
-        let written = write_some(fd, &floats[at..stop], bytes);
+        let written = write_some(to, &floats[at..stop], bytes);
         count = wrapping_add_usize(count, written.count);
         if written.error != 0 {
             return Written {
@@ -40,13 +41,19 @@ pub fn write_floats(fd: i32, floats: &[f64], bytes: &mut [u8; 16384]) -> Written
     Written { count, error: 0 }
 }
 
-// Fills the bytes from the file's byte `at` on; false where the file ends before.
-pub fn read_at(fd: i32, bytes: &mut [u8], at: u64) -> bool {
-    libc::lseek(fd, offset_of(at), libc::SEEK_SET);
-    io::read_full(fd, bytes) == bytes.len()
+// Fills the bytes from the file's byte `at` on; false where the file ends before. What has no positions is read on from where it stands.
+pub fn read_at<S: Read + Seek>(source: &mut S, bytes: &mut [u8], at: u64) -> bool {
+    let _ = source.seek(SeekFrom::Start(offset_of(at).cast_unsigned()));
+    let read = read_all(source, bytes);
+    read.count == bytes.len()
 }
 
-fn read_some(fd: i32, at: u64, floats: &mut [f64], bytes: &mut [u8]) -> bool {
+fn read_some<S: Read + Seek>(
+    source: &mut S,
+    at: u64,
+    floats: &mut [f64],
+    bytes: &mut [u8],
+) -> bool {
     let n = floats.len();
     if CHUNK < n {
         return false;
@@ -55,7 +62,7 @@ fn read_some(fd: i32, at: u64, floats: &mut [f64], bytes: &mut [u8]) -> bool {
     if bytes.len() < size {
         return false;
     }
-    if !read_at(fd, &mut bytes[0..size], at) {
+    if !read_at(source, &mut bytes[0..size], at) {
         return false;
     }
     wav::get_samples(bytes, floats);
@@ -63,13 +70,18 @@ fn read_some(fd: i32, at: u64, floats: &mut [f64], bytes: &mut [u8]) -> bool {
 }
 
 // Fills the floats from the file's byte `start` on; false where the file ends before.
-pub fn read_floats(fd: i32, start: u64, floats: &mut [f64], bytes: &mut [u8; 16384]) -> bool {
+pub fn read_floats<S: Read + Seek>(
+    source: &mut S,
+    start: u64,
+    floats: &mut [f64],
+    bytes: &mut [u8; 16384],
+) -> bool {
     let end = floats.len();
     let mut at = 0usize;
     let mut place = start;
     while at < end {
         let stop = chunk_end(at, end);
-        if !read_some(fd, place, &mut floats[at..stop], bytes) {
+        if !read_some(source, place, &mut floats[at..stop], bytes) {
             return false;
         }
         place = wrapping_add_u64(place, 16384);

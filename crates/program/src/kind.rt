@@ -1,5 +1,6 @@
 // What kind of file the system has at a name. Programs read and write regular files and character devices (as /dev/null) alone: the opening of a FIFO waits for its other end, and a
 // block device holds somebody's disk.
+use crate::system::System;
 use file_status::FileStatus;
 use text::lines::row;
 
@@ -47,8 +48,9 @@ pub fn is_barred(file: FileStatus) -> bool {
 }
 
 // What it is, of one that is no regular file.
-pub fn complain_of(program: &[u8], path: &[u8], file: FileStatus) {
+pub fn complain_of(rt: &impl System, program: &[u8], path: &[u8], file: FileStatus) {
     crate::message::complain(
+        rt,
         program,
         path,
         row(

@@ -1,4 +1,5 @@
-// What the programs share: their arguments and standard streams, what they say of a failure, the files that they read and write, and the status that their shell commands end with.
+// What the programs share: what they reach outside by, their arguments and standard streams, what they say of a failure, the files that they read and write, and the status that their shell
+// commands end with.
 #![tactic(auto)]
 
 pub mod arguments;
@@ -9,4 +10,5 @@ pub mod message;
 pub mod output;
 pub mod replacement;
 pub mod streams;
+pub mod system;
 pub mod wave;

@@ -1,34 +1,68 @@
 // Lines on standard error: which program, which file or word, and what is wrong with it.
-use libc::STDERR_FILENO;
+use crate::system::System;
+use std::fmt::InlineText;
+use std::io;
 use text::lines::row;
+use text::put_number;
 
-fn name(program: &[u8], what: &[u8]) {
-    io::write_all(STDERR_FILENO, program);
-    io::write_all(STDERR_FILENO, b": ");
-    io::write_all(STDERR_FILENO, what);
+// Bytes on standard error. Where it does not take them, there is nobody to tell.
+pub fn tell(rt: &impl System, bytes: &[u8]) {
+    let _ = rt.messages().write_all(bytes);
 }
 
-pub fn complain(program: &[u8], what: &[u8], words: &[u8]) {
-    name(program, what);
-    io::write_all(STDERR_FILENO, b": ");
-    io::write_all(STDERR_FILENO, words);
-    io::write_all(STDERR_FILENO, b"\n");
+fn name(rt: &impl System, program: &[u8], what: &[u8]) {
+    tell(rt, program);
+    tell(rt, b": ");
+    tell(rt, what);
+}
+
+pub fn complain(rt: &impl System, program: &[u8], what: &[u8], words: &[u8]) {
+    name(rt, program, what);
+    tell(rt, b": ");
+    tell(rt, words);
+    tell(rt, b"\n");
 }
 
 // Of a word of the command line, by itself, or by what it stands for where there is none to show: it is empty, or longer than any that is meant.
-pub fn complain_of_word(program: &[u8], word: &[u8], what: &[u8], words: &[u8]) {
+pub fn complain_of_word(rt: &impl System, program: &[u8], word: &[u8], what: &[u8], words: &[u8]) {
     if word.len() == 0 {
-        complain(program, what, words);
+        complain(rt, program, what, words);
     } else {
-        complain(program, word, words);
+        complain(rt, program, word, words);
     }
 }
 
-// With the system's words for the call that failed just now.
-pub fn fail(program: &[u8], what: &[u8]) {
-    io::write_all(STDERR_FILENO, program);
-    io::write_all(STDERR_FILENO, b": ");
-    os::fail(what);
+// ---- the system's words
+
+// The system's words for an error, without its number.
+fn system_words(said: &str) -> &str {
+    match said.split_once(" (os error ") {
+        Some((words, _)) => words,
+        None => said,
+    }
+}
+
+// With the system's words for the call that failed.
+pub fn fail(rt: &impl System, program: &[u8], what: &[u8], error: io::Error) {
+    let said = InlineText::<256>::of(error);
+    complain(rt, program, what, system_words(said.as_str()).as_bytes());
+}
+
+// ---- words for the number of an error
+
+// The device failed.
+pub const DEVICE_FAILED: i32 = 5;
+
+// The descriptor is closed, or not open for this.
+pub const NOT_OPEN: i32 = 9;
+
+// The system's number for an error of a read or a write. One that has none counts as a failure of the device.
+pub fn number_of(error: io::Error) -> i32 {
+    match error.raw_os_error() {
+        Some(0) => DEVICE_FAILED,
+        Some(number) => number,
+        None => DEVICE_FAILED,
+    }
 }
 
 fn row_of(error: i32) -> u64 {
@@ -47,9 +81,9 @@ fn row_of(error: i32) -> u64 {
 }
 
 // Words for the number of an error of a read or a write.
-fn put_words(error: i32) {
-    io::write_all(
-        STDERR_FILENO,
+fn put_words(rt: &impl System, error: i32) {
+    tell(
+        rt,
         row(
             b"\
                 the device failed\n\
@@ -65,21 +99,28 @@ fn put_words(error: i32) {
             row_of(error),
         ),
     );
-    io::write_all(STDERR_FILENO, b"\n");
+    tell(rt, b"\n");
 }
 
 // With words for an error that may lie behind other calls.
-pub fn complain_of(program: &[u8], what: &[u8], error: i32) {
-    name(program, what);
-    io::write_all(STDERR_FILENO, b": ");
-    put_words(error);
+pub fn complain_of(rt: &impl System, program: &[u8], what: &[u8], error: i32) {
+    name(rt, program, what);
+    tell(rt, b": ");
+    put_words(rt, error);
+}
+
+// A number's decimal digits.
+pub fn tell_number(rt: &impl System, n: u64) {
+    let mut digits = [0u8; 20];
+    let end = put_number(&mut digits, 0, n);
+    tell(rt, little_endian::part(&digits, 0, end));
 }
 
 // The same with the line of the file that was to be read.
-pub fn complain_at(program: &[u8], what: &[u8], line: u64, error: i32) {
-    name(program, what);
-    io::write_all(STDERR_FILENO, b": line ");
-    io::print_decimal(STDERR_FILENO, line);
-    io::write_all(STDERR_FILENO, b": ");
-    put_words(error);
+pub fn complain_at(rt: &impl System, program: &[u8], what: &[u8], line: u64, error: i32) {
+    name(rt, program, what);
+    tell(rt, b": line ");
+    tell_number(rt, line);
+    tell(rt, b": ");
+    put_words(rt, error);
 }

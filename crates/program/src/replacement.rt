@@ -1,49 +1,59 @@
 // A file that is put in its place whole. The bytes go into a file beside it, under a name that nobody has, which then takes the place by a rename: whatever ends the program, the
 // path has the file that was there or all of the new bytes.
 use crate::message::{complain, complain_of, fail};
-use crate::output::InUse;
+use crate::output::{InUse, create, open_update};
+use crate::system::System;
 use crate::{kind, output};
-use file_status::{FileStatus, is_link, status_at, status_of};
-use libc::PATH_MAX;
+use file_status::{FileStatus, is_link, status_at, status_of, text_of};
 use little_endian::part;
+use std::fs::{File, Permissions};
 use std::num::wrapping_add_u64;
+use std::os::unix::fs::{PermissionsExt, fchown};
+use std::{fs, io};
 use text::{put, put_counted};
 
 // ---- whether a file may be replaced
 
 // A rename needs no right to the file that goes; every other output needs it, and so does this one.
-fn is_writable(program: &[u8], path: &[u8]) -> bool {
-    let fd = os::open_update(path);
-    if fd < 0 {
-        fail(program, path);
-        return false;
+fn is_writable(rt: &impl System, program: &[u8], path: &[u8]) -> bool {
+    match open_update(rt, path) {
+        Ok(_) => true,
+        Err(e) => {
+            fail(rt, program, path, e);
+            false
+        }
     }
-    libc::close(fd);
-    true
 }
 
 // Whether the path names a regular file that may be written, or nothing, and none of those in use, whose rows say what they are. Nothing is made.
-pub fn is_replaceable(program: &[u8], path: &[u8], used: InUse, rows: &[u8]) -> bool {
-    if !output::is_apart(program, path, used, rows) {
+pub fn is_replaceable(
+    rt: &impl System,
+    program: &[u8],
+    path: &[u8],
+    used: InUse,
+    rows: &[u8],
+) -> bool {
+    if !output::is_apart(rt, program, path, used, rows) {
         return false;
     }
-    if is_link(path) {
+    if is_link(rt, path) {
         complain(
+            rt,
             program,
             path,
             b"it is a symbolic link, and a file is wanted: name the one that it leads to",
         );
         return false;
     }
-    let file = status_at(path);
+    let file = status_at(rt, path);
     if !file.is_known {
         return true;
     }
     if !kind::is_regular(file) {
-        kind::complain_of(program, path, file);
+        kind::complain_of(rt, program, path, file);
         return false;
     }
-    is_writable(program, path)
+    is_writable(rt, program, path)
 }
 
 // ---- the file beside it
@@ -51,14 +61,15 @@ pub fn is_replaceable(program: &[u8], path: &[u8], used: InUse, rows: &[u8]) -> 
 // How many names are tried.
 const NAMES: u64 = 1000;
 
-// The longest path: the system's counts the 0 behind it.
-const LONGEST_PATH: usize = PATH_MAX - 1;
+// The longest path: the system's 4,096 bytes count the 0 behind it.
+const LONGEST_PATH: usize = 4095;
 
-// The file that was made, and the length of its path. `fd` is below 0 where none could be made, and the length 0 where no name was free.
-#[derive(Clone, Copy)]
-struct Beside {
-    fd: i32,
-    length: usize,
+// The file that was made and the length of its path, or why none could be made, or that no name was free.
+#[derive(Drop)]
+enum Beside {
+    Made(File, usize),
+    Failed(io::Error),
+    NoneFree,
 }
 
 // Where the path's last name starts.
@@ -91,18 +102,23 @@ fn put_name(path: &mut [u8], folder: usize, program: &[u8], i: u64) -> usize {
 }
 
 // Makes a file in the path's folder, and puts its path into the lent bytes. A name that is taken, or is the path's own, is passed over.
-fn make_beside(program: &[u8], path: &[u8], bytes: &mut [u8]) -> Beside {
+fn make_beside(rt: &impl System, program: &[u8], path: &[u8], bytes: &mut [u8]) -> Beside {
     let folder = put(bytes, 0, part(path, 0, name_start(path)));
     for i in 0..NAMES {
         let length = put_name(bytes, folder, program, i);
-        if !check::same(part(bytes, 0, length), path) {
-            let fd = os::create(part(bytes, 0, length));
-            if (fd >= 0) | (os::errno() != libc::EEXIST) {
-                return Beside { fd, length };
+        let name = part(bytes, 0, length);
+        if name != path {
+            match create(rt, name) {
+                Ok(file) => return Beside::Made(file, length),
+                Err(e) => {
+                    if e.kind() != io::ErrorKind::AlreadyExists {
+                        return Beside::Failed(e);
+                    }
+                }
             }
         }
     }
-    Beside { fd: -1, length: 0 }
+    Beside::NoneFree
 }
 
 // ---- what goes into it
@@ -112,33 +128,35 @@ fn permissions(file: FileStatus) -> u32 {
 }
 
 // Gives the new file the owner, the group and the permissions of the one that it is to replace. What it has already is not asked for, since some disks know one owner alone.
-fn adopt(fd: i32, file: FileStatus) -> bool {
-    let own = status_of(fd);
+fn adopt(to: &File, file: FileStatus) -> io::Result<()> {
+    let own = status_of(to);
     if (own.owner != file.owner) | (own.group != file.group) {
-        if libc::fchown(fd, file.owner, file.group) != 0 {
-            return false;
-        }
+        fchown(to, Some(file.owner), Some(file.group))?;
     }
     if permissions(own) == permissions(file) {
-        return true;
+        return Ok(());
     }
-    libc::fchmod(fd, permissions(file)) == 0
+    to.set_permissions(Permissions::from_mode(permissions(file)))
 }
 
 // Whether the system did what it was asked just now; else it is said.
-fn is_done(program: &[u8], path: &[u8], answer: i32) -> bool {
-    if answer != 0 {
-        fail(program, path);
+fn is_done(rt: &impl System, program: &[u8], path: &[u8], answer: io::Result<()>) -> bool {
+    match answer {
+        Ok(()) => true,
+        Err(e) => {
+            fail(rt, program, path, e);
+            false
+        }
     }
-    answer == 0
 }
 
 // The permissions come before the bytes: what few may read does not lie there for all.
-fn fill(program: &[u8], path: &[u8], fd: i32, bytes: &[u8]) -> bool {
-    let file = status_at(path);
+fn fill(rt: &impl System, program: &[u8], path: &[u8], to: &mut File, bytes: &[u8]) -> bool {
+    let file = status_at(rt, path);
     if file.is_known {
-        if !adopt(fd, file) {
+        if adopt(to, file).is_err() {
             complain(
+                rt,
                 program,
                 path,
                 b"its owner, group and permissions cannot be kept",
@@ -146,53 +164,77 @@ fn fill(program: &[u8], path: &[u8], fd: i32, bytes: &[u8]) -> bool {
             return false;
         }
     }
-    let written = output::write(fd, bytes);
+    let written = output::write(to, bytes);
     if written.error != 0 {
-        complain_of(program, path, written.error);
+        complain_of(rt, program, path, written.error);
         return false;
     }
-    is_done(program, path, libc::fsync(fd))
+    is_done(rt, program, path, to.sync_all())
 }
 
 // ---- the whole
 
-// The new file filled and closed, and then renamed.
-fn put_in_place(program: &[u8], name: &[u8], path: &[u8], fd: i32, bytes: &[u8]) -> bool {
-    let is_filled = fill(program, path, fd, bytes);
-    let closed = libc::close(fd);
-    if !is_filled {
-        return false;
-    }
-    if !is_done(program, path, closed) {
-        return false;
-    }
-    is_done(program, path, os::rename(name, path))
+// The new file filled and closed.
+fn is_filled(rt: &impl System, program: &[u8], path: &[u8], to: File, bytes: &[u8]) -> bool {
+    let mut to = to;
+    fill(rt, program, path, &mut to, bytes)
 }
 
-fn complain_of_none(program: &[u8], path: &[u8], beside: Beside) {
-    if beside.length == 0 {
-        complain(
-            program,
-            path,
-            b"no name is free for a temporary file beside it",
-        );
-    } else {
-        fail(program, path);
+// The same, and then renamed.
+fn put_in_place(
+    rt: &impl System,
+    program: &[u8],
+    name: &[u8],
+    path: &[u8],
+    to: File,
+    bytes: &[u8],
+) -> bool {
+    if !is_filled(rt, program, path, to, bytes) {
+        return false;
     }
+    is_done(
+        rt,
+        program,
+        path,
+        fs::rename(rt, text_of(name), text_of(path)),
+    )
+}
+
+fn put_or_withdraw(
+    rt: &impl System,
+    program: &[u8],
+    name: &[u8],
+    path: &[u8],
+    to: File,
+    bytes: &[u8],
+) -> bool {
+    let is_replaced = put_in_place(rt, program, name, path, to, bytes);
+    if !is_replaced {
+        let _ = fs::remove_file(rt, text_of(name));
+    }
+    is_replaced
 }
 
 // The bytes as the file at the path; where it fails it has been said, what was there stays, and nothing is left beside it.
-pub fn replace(program: &[u8], path: &[u8], bytes: &[u8]) -> bool {
-    let mut space = io::buffer();
-    let beside = make_beside(program, path, &mut space);
-    if beside.fd < 0 {
-        complain_of_none(program, path, beside);
-        return false;
+pub fn replace(rt: &impl System, program: &[u8], path: &[u8], bytes: &[u8]) -> bool {
+    let mut space = [0u8; 4096];
+    match make_beside(rt, program, path, &mut space) {
+        Beside::Made(to, length) => {
+            let name = part(&space, 0, length);
+            put_or_withdraw(rt, program, name, path, to, bytes)
+        }
+        Beside::Failed(e) => {
+            fail(rt, program, path, e);
+            false
+        }
+        Beside::NoneFree => {
+            complain(
+                rt,
+                program,
+                path,
+                b"no name is free for a temporary file beside it",
+            );
+            false
+        }
     }
-    let name = part(&space, 0, beside.length);
-    let is_replaced = put_in_place(program, name, path, beside.fd, bytes);
-    if !is_replaced {
-        os::unlink(name);
-    }
-    is_replaced
 }

@@ -1,7 +1,7 @@
 // Answers on their way to standard output.
-use libc::STDOUT_FILENO;
 use little_endian::part;
 use program::output;
+use program::system::System;
 
 // Of the buffer the first `held` bytes wait to be written. `error` is the system's number once a write has failed; nothing is written behind it.
 #[derive(Clone, Copy)]
@@ -14,26 +14,26 @@ pub fn none() -> Answers {
     Answers { held: 0, error: 0 }
 }
 
-pub fn flush(buffer: &[u8], answers: Answers) -> Answers {
+pub fn flush(rt: &impl System, buffer: &[u8], answers: Answers) -> Answers {
     if answers.error != 0 {
         return answers;
     }
-    let written = output::write(STDOUT_FILENO, part(buffer, 0, answers.held));
+    let written = output::write(&mut rt.answers(), part(buffer, 0, answers.held));
     Answers {
         held: 0,
         error: written.error,
     }
 }
 
-fn flush_full(buffer: &[u8], answers: Answers) -> Answers {
+fn flush_full(rt: &impl System, buffer: &[u8], answers: Answers) -> Answers {
     if answers.held < buffer.len() {
         return answers;
     }
-    flush(buffer, answers)
+    flush(rt, buffer, answers)
 }
 
-fn put_byte(buffer: &mut [u8], answers: Answers, b: u8) -> Answers {
-    let mut next = flush_full(buffer, answers);
+fn put_byte(rt: &impl System, buffer: &mut [u8], answers: Answers, b: u8) -> Answers {
+    let mut next = flush_full(rt, buffer, answers);
     let at = next.held;
     if at < buffer.len() {
         buffer[at] = b;
@@ -42,10 +42,10 @@ fn put_byte(buffer: &mut [u8], answers: Answers, b: u8) -> Answers {
     next
 }
 
-pub fn put(buffer: &mut [u8], answers: Answers, bytes: &[u8]) -> Answers {
+pub fn put(rt: &impl System, buffer: &mut [u8], answers: Answers, bytes: &[u8]) -> Answers {
     let mut next = answers;
     for i in 0..bytes.len() {
-        let more = put_byte(buffer, next, bytes[i]);
+        let more = put_byte(rt, buffer, next, bytes[i]);
         next = more;
     }
     next

@@ -1,41 +1,69 @@
 // The script, and where samples and forces go.
-use file_status::FileStatus;
-use libc::STDIN_FILENO;
-use program::input::Input;
-use program::message::complain;
+use file_status::{Stream, status_of_stream};
+use program::input::{Input, Source};
+use program::message::{complain, number_of};
 use program::output::{InUse, Output};
+use program::system::System;
+use program::wave::Wave;
 use program::{input, kind, output, streams};
+use std::io;
+use std::io::Read;
+
+// What the script is read from. `error` is the system's number once a read has failed.
+#[derive(Drop)]
+pub struct Script {
+    pub source: Source,
+    pub error: i32,
+}
+
+impl Read for Script {
+    fn read(&mut self, buf: &mut [u8]) -> io::Result<usize> {
+        match self.source.read(buf) {
+            Ok(n) => Ok(n),
+            Err(e) => {
+                self.error = number_of(e);
+                Err(io::Error::from_raw_os_error(self.error))
+            }
+        }
+    }
+}
+
+pub fn script_of(source: Source) -> Script {
+    Script { source, error: 0 }
+}
 
 // `-` is standard input, and is called so.
 pub fn is_standard_input(path: &[u8]) -> bool {
     check::same(path, b"-")
 }
 
-// The script's descriptor, below 0 where there is none.
-pub fn open_script(path: &[u8]) -> Input {
+// The script, closed where there is none.
+pub fn open_script(rt: &impl System, path: &[u8]) -> Input {
     if !is_standard_input(path) {
-        return input::open(b"rehearse", path);
+        return input::open(rt, b"rehearse", path);
     }
-    if !streams::is_input_open(b"rehearse") {
+    if !streams::is_input_open(rt, b"rehearse") {
         return Input {
-            fd: -1,
-            file: file_status::status_of(STDIN_FILENO),
+            source: Source::Closed,
+            file: status_of_stream(rt, Stream::Input),
         };
     }
-    input::of(b"rehearse", b"standard input", STDIN_FILENO)
+    input::standard(rt, b"rehearse")
 }
 
 // The forces are written where anybody asked for them.
-#[derive(Clone, Copy)]
+#[derive(Drop)]
 pub struct Places {
-    pub wave: Output,
+    pub script: Script,
+    pub wave: Wave,
     pub forces: Output,
     pub has_forces: bool,
     pub are_open: bool,
 }
 
-fn is_free(path: &[u8], used: InUse) -> bool {
+fn is_free(rt: &impl System, path: &[u8], used: InUse) -> bool {
     output::is_apart(
+        rt,
         b"rehearse",
         path,
         used,
@@ -48,74 +76,83 @@ fn is_free(path: &[u8], used: InUse) -> bool {
 }
 
 // Whether neither output is in use; nothing is opened.
-fn are_free(wave: &[u8], forces: &[u8], has_forces: bool, used: InUse) -> bool {
-    if !is_free(wave, used) {
+fn are_free(rt: &impl System, wave: &[u8], forces: &[u8], has_forces: bool, used: InUse) -> bool {
+    if !is_free(rt, wave, used) {
         return false;
     }
     if !has_forces {
         return true;
     }
-    is_free(forces, used)
+    is_free(rt, forces, used)
 }
 
-fn closed(wave: Output) -> Places {
+// The samples' file before it is begun.
+fn wave_of(out: Output) -> Wave {
+    Wave {
+        out,
+        rate: 0,
+        samples: 0,
+        error: 0,
+    }
+}
+
+fn closed() -> Places {
     Places {
-        wave,
-        forces: wave,
+        script: script_of(Source::Closed),
+        wave: wave_of(output::none()),
+        forces: output::none(),
         has_forces: false,
         are_open: false,
     }
 }
 
+fn opened(wave: Output, forces: Output, has_forces: bool) -> Places {
+    Places {
+        script: script_of(Source::Closed),
+        wave: wave_of(wave),
+        forces,
+        has_forces,
+        are_open: true,
+    }
+}
+
 // The forces' file beside the samples'; where it cannot be had, neither is touched.
-fn with_forces(wave: Output, wave_path: &[u8], path: &[u8]) -> Places {
-    let forces = output::open(b"rehearse", path);
+fn with_forces(rt: &impl System, wave: Output, wave_path: &[u8], path: &[u8]) -> Places {
+    let forces = output::open(rt, b"rehearse", path);
     let is_one = kind::is_same(wave.file, forces.file);
     if is_one {
         complain(
+            rt,
             b"rehearse",
             path,
             b"samples and forces may not go into one file",
         );
     }
-    if is_one | (forces.fd < 0) {
-        output::withdraw(path, forces);
-        output::withdraw(wave_path, wave);
-        return closed(wave);
+    if is_one | !output::is_open(&forces) {
+        output::withdraw(rt, path, forces);
+        output::withdraw(rt, wave_path, wave);
+        return closed();
     }
-    Places {
-        wave,
-        forces,
-        has_forces: true,
-        are_open: true,
-    }
+    opened(wave, forces, true)
 }
 
 // Opens what is written, and empties nothing.
-pub fn open_places(wave: &[u8], forces: &[u8], has_forces: bool, used: InUse) -> Places {
-    if !are_free(wave, forces, has_forces, used) {
-        return closed(output::none());
+pub fn open_places(
+    rt: &impl System,
+    wave: &[u8],
+    forces: &[u8],
+    has_forces: bool,
+    used: InUse,
+) -> Places {
+    if !are_free(rt, wave, forces, has_forces, used) {
+        return closed();
     }
-    let samples = output::open(b"rehearse", wave);
-    if samples.fd < 0 {
-        return closed(samples);
+    let samples = output::open(rt, b"rehearse", wave);
+    if !output::is_open(&samples) {
+        return closed();
     }
     if has_forces {
-        return with_forces(samples, wave, forces);
+        return with_forces(rt, samples, wave, forces);
     }
-    Places {
-        wave: samples,
-        forces: samples,
-        has_forces: false,
-        are_open: true,
-    }
-}
-
-pub fn close_places(places: Places) {
-    let wave = places.wave;
-    let forces = places.forces;
-    libc::close(wave.fd);
-    if places.has_forces {
-        libc::close(forces.fd);
-    }
+    opened(samples, output::none(), false)
 }

@@ -1,8 +1,9 @@
-// How far the rehearsal is: the script's lines, the answers on their way out, the samples written, and signs of life.
+// How far the rehearsal is: the script's lines, the answers on their way out, and signs of life.
 use crate::answers;
 use crate::answers::Answers;
-use libc::STDERR_FILENO;
-use program::wave::Wave;
+use crate::places::Script;
+use program::message::{tell, tell_number};
+use program::system::System;
 use std::num::wrapping_add_u64;
 use text::lines;
 use text::lines::{Found, Line, Reader};
@@ -25,21 +26,19 @@ pub struct Progress {
     pub reader: Reader,
     pub is_shown: bool,
     pub answers: Answers,
-    pub wave: Wave,
     pub line: u64,
     pub due: f64,
     pub ending: Ending,
 }
 
 // No line is read yet.
-pub fn begun(reader: Reader, is_shown: bool, wave: Wave) -> Progress {
+pub fn begun(rt: &impl System, reader: Reader, is_shown: bool) -> Progress {
     Progress {
         reader,
         is_shown,
         answers: answers::none(),
-        wave,
         line: 0,
-        due: wall_time() + PATIENCE,
+        due: wall_time(rt) + PATIENCE,
         ending: Ending::GoesOn,
     }
 }
@@ -52,12 +51,10 @@ pub fn ended(p: Progress, ending: Ending) -> Progress {
     }
     let reader = p.reader;
     let answers = p.answers;
-    let wave = p.wave;
     Progress {
         reader,
         is_shown: p.is_shown,
         answers,
-        wave,
         line: p.line,
         due: p.due,
         ending,
@@ -84,22 +81,28 @@ fn with_answers(p: Progress, answers: Answers) -> Progress {
 }
 
 // All answers so far go out, as before everything that can fail or wait.
-pub fn flush(p: Progress, buffer: &[u8]) -> Progress {
-    with_answers(p, answers::flush(buffer, p.answers))
+pub fn flush(rt: &impl System, p: Progress, buffer: &[u8]) -> Progress {
+    with_answers(p, answers::flush(rt, buffer, p.answers))
 }
 
-fn put_line(buffer: &mut [u8], answers: Answers, mark: &[u8], line: &[u8]) -> Answers {
+fn put_line(
+    rt: &impl System,
+    buffer: &mut [u8],
+    answers: Answers,
+    mark: &[u8],
+    line: &[u8],
+) -> Answers {
     if line.len() == 0 {
         return answers;
     }
-    let marked = answers::put(buffer, answers, mark);
-    let with_line = answers::put(buffer, marked, line);
-    answers::put(buffer, with_line, b"\n")
+    let marked = answers::put(rt, buffer, answers, mark);
+    let with_line = answers::put(rt, buffer, marked, line);
+    answers::put(rt, buffer, with_line, b"\n")
 }
 
 // A line of answer, behind which the script's next line comes.
-pub fn say(p: Progress, line: &[u8], buffer: &mut [u8]) -> Progress {
-    let mut next = with_answers(p, put_line(buffer, p.answers, b"", line));
+pub fn say(rt: &impl System, p: Progress, line: &[u8], buffer: &mut [u8]) -> Progress {
+    let mut next = with_answers(p, put_line(rt, buffer, p.answers, b"", line));
     next.line = wrapping_add_u64(p.line, 1);
     next
 }
@@ -109,26 +112,26 @@ pub fn say(p: Progress, line: &[u8], buffer: &mut [u8]) -> Progress {
 // In seconds of the clock on the wall.
 const PATIENCE: f64 = 2.0;
 
-fn wall_time() -> f64 {
-    std::num::nearest_i64_to_f64(file_status::monotonic_seconds())
+fn wall_time(rt: &impl System) -> f64 {
+    std::num::nearest_i64_to_f64(file_status::monotonic_seconds(rt))
 }
 
-fn show_life(line: u64, t: u64) {
-    io::write_all(STDERR_FILENO, b"rehearse: line ");
-    io::print_decimal(STDERR_FILENO, line);
-    io::write_all(STDERR_FILENO, b", position ");
-    io::print_decimal(STDERR_FILENO, t);
-    io::write_all(STDERR_FILENO, b"\n");
+fn show_life(rt: &impl System, line: u64, t: u64) {
+    tell(rt, b"rehearse: line ");
+    tell_number(rt, line);
+    tell(rt, b", position ");
+    tell_number(rt, t);
+    tell(rt, b"\n");
 }
 
 // Where it is due: the answers so far, and a line on standard error.
-pub fn live(p: Progress, t: u64, buffer: &[u8]) -> Progress {
-    let time = wall_time();
+pub fn live(rt: &impl System, p: Progress, t: u64, buffer: &[u8]) -> Progress {
+    let time = wall_time(rt);
     if time < p.due {
         return p;
     }
-    let mut next = flush(p, buffer);
-    show_life(p.line, t);
+    let mut next = flush(rt, p, buffer);
+    show_life(rt, p.line, t);
     next.due = time + PATIENCE;
     next
 }
@@ -136,14 +139,14 @@ pub fn live(p: Progress, t: u64, buffer: &[u8]) -> Progress {
 // ---- the script's lines
 
 // A script that is shown stands in the answers: a remark as it is, a call behind a mark.
-fn show(p: Progress, text: &[u8], buffer: &mut [u8]) -> Progress {
+fn show(rt: &impl System, p: Progress, text: &[u8], buffer: &mut [u8]) -> Progress {
     if !p.is_shown {
         return p;
     }
     if little_endian::byte_at(text, 0) == b'#' {
-        return with_answers(p, put_line(buffer, p.answers, b"", text));
+        return with_answers(p, put_line(rt, buffer, p.answers, b"", text));
     }
-    with_answers(p, put_line(buffer, p.answers, b"> ", text))
+    with_answers(p, put_line(rt, buffer, p.answers, b"> ", text))
 }
 
 // The script's next line, if the rehearsal goes on.
@@ -153,41 +156,54 @@ pub struct Asked {
     pub command: Command,
 }
 
-// The reader behind a line; a failure's number is the system's last.
-fn behind(p: Progress, line: Line) -> Progress {
+// The reader behind a line; a failure's number is the script's last.
+fn behind(p: Progress, line: Line, error: i32) -> Progress {
     let reader = line.reader;
     let mut next = p;
     next.reader = reader;
     let found = line.found;
     match found {
         Found::End => ended(next, Ending::Finished),
-        Found::Failed => ended(next, Ending::ScriptFailed(os::errno())),
+        Found::Failed => ended(next, Ending::ScriptFailed(error)),
         _ => next,
     }
 }
 
-fn ask(p: Progress, input: &mut [u8], buffer: &mut [u8]) -> Asked {
-    let line = lines::next(input, p.reader);
-    let next = behind(p, line);
+fn ask(
+    rt: &impl System,
+    p: Progress,
+    script: &mut Script,
+    input: &mut [u8],
+    buffer: &mut [u8],
+) -> Asked {
+    let line = lines::next(script, input, p.reader);
+    let next = behind(p, line, script.error);
     let command = text::script::command_in(input, line);
-    let progress = show(next, lines::text_of(input, line), buffer);
+    let progress = show(rt, next, lines::text_of(input, line), buffer);
     Asked { progress, command }
 }
 
 // Time that went by in waiting for the line was no work.
-fn rested(asked: Asked) -> Asked {
+fn rested(rt: &impl System, asked: Asked) -> Asked {
     let command = asked.command;
     let mut progress = asked.progress;
-    progress.due = wall_time() + PATIENCE;
+    progress.due = wall_time(rt) + PATIENCE;
     Asked { progress, command }
 }
 
 // The next line. A read may wait or fail, so all answers are out before it.
-pub fn read_line(p: Progress, t: u64, input: &mut [u8], buffer: &mut [u8]) -> Asked {
-    let lived = live(p, t, buffer);
+pub fn read_line(
+    rt: &impl System,
+    p: Progress,
+    t: u64,
+    script: &mut Script,
+    input: &mut [u8],
+    buffer: &mut [u8],
+) -> Asked {
+    let lived = live(rt, p, t, buffer);
     if !lines::is_waiting(input, p.reader) {
-        return ask(lived, input, buffer);
+        return ask(rt, lived, script, input, buffer);
     }
-    let flushed = flush(lived, buffer);
-    rested(ask(flushed, input, buffer))
+    let flushed = flush(rt, lived, buffer);
+    rested(rt, ask(rt, flushed, script, input, buffer))
 }

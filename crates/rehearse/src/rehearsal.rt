@@ -6,10 +6,12 @@ use console::parts::Task;
 use console::{Console, Response, Turn, parts};
 use instrument::Instrument;
 use little_endian::part;
+use program::message::number_of;
+use program::system::System;
 use program::wave::Wave;
 use program::{floats, output, wave};
+use std::mem;
 use std::num::wrapping_add_u64;
-use text::lines::Reader;
 use text::script::{Command, Fault, Kind};
 
 // A play or a go of more samples goes in parts of as many.
@@ -24,6 +26,7 @@ pub struct Rehearsal {
 }
 
 fn say_reply(
+    rt: &impl System,
     p: Progress,
     reply: Response,
     instrument: Instrument,
@@ -33,30 +36,38 @@ fn say_reply(
 ) -> Progress {
     let mut line = [0u8; 1024];
     let n = console::put_reply(&mut line, p.line, reply, instrument, console, work);
-    progress::say(p, part(&line, 0, n), answers)
+    progress::say(rt, p, part(&line, 0, n), answers)
 }
 
 // ---- what was played
 
-fn with_wave(p: Progress, wave: Wave) -> Progress {
-    let mut next = p;
-    next.wave = wave;
+fn with_wave(p: Progress, wave: &Wave) -> Progress {
     if wave.error == 0 {
-        return next;
+        return p;
     }
-    progress::ended(next, Ending::WaveFailed(wave.error))
+    progress::ended(p, Ending::WaveFailed(wave.error))
 }
 
-fn store_samples(p: Progress, samples: &[f64], bytes: &mut [u8; 16384]) -> Progress {
-    with_wave(p, wave::append(p.wave, samples, bytes))
+fn store_samples(
+    p: Progress,
+    wave: &mut Wave,
+    samples: &[f64],
+    bytes: &mut [u8; 16384],
+) -> Progress {
+    wave::append(wave, samples, bytes);
+    with_wave(p, wave)
 }
 
-fn store_forces(p: Progress, places: Places, forces: &[f64], bytes: &mut [u8; 16384]) -> Progress {
+fn store_forces(
+    p: Progress,
+    places: &mut Places,
+    forces: &[f64],
+    bytes: &mut [u8; 16384],
+) -> Progress {
     if !places.has_forces {
         return p;
     }
-    let out = places.forces;
-    let written = floats::write_floats(out.fd, forces, bytes);
+    let written = floats::write_floats(&mut places.forces, forces, bytes);
     if written.error == 0 {
         return p;
     }
@@ -66,7 +77,7 @@ fn store_forces(p: Progress, places: Places, forces: &[f64], bytes: &mut [u8; 16
 // The samples and forces of a play go into their files; nothing does once something has failed.
 fn store(
     p: Progress,
-    places: Places,
+    places: &mut Places,
     turn: Turn,
     out: &[f64],
     trace: &[f64],
@@ -81,18 +92,18 @@ fn store(
     }
     let n = console::fitting(turn.samples, out);
     let k = console::fitting(turn.forces, trace);
-    let stored = store_samples(p, &out[..n], bytes);
+    let stored = store_samples(p, &mut places.wave, &out[..n], bytes);
     store_forces(stored, places, &trace[..k], bytes)
 }
 
 // ---- one line
 
 // A play that the WAV's header cannot count is a bad line.
-fn fitted(command: Command, wave: Wave) -> Command {
+fn fitted(command: Command, samples: u64) -> Command {
     let kind = command.kind;
     match kind {
         Kind::Play => {
-            if wav::MOST_SAMPLES < wrapping_add_u64(wave.samples, clipped(command.number)) {
+            if wav::MOST_SAMPLES < wrapping_add_u64(samples, clipped(command.number)) {
                 return text::script::bad(Fault::WaveFull);
             }
             command
@@ -108,9 +119,10 @@ fn clipped(m: u64) -> u64 {
 
 // One part of the line's call, and what it played. The answer comes behind the last part, also where a write has failed on the way.
 fn call_part(
+    rt: &impl System,
     instrument: Instrument,
     r: Rehearsal,
-    places: Places,
+    places: &mut Places,
     work: &mut [f64; 662000],
     out: &mut [f64; 8192],
     trace: &mut [f64; 8192],
@@ -126,7 +138,7 @@ fn call_part(
     let stored = store(r.progress, places, turn, out, trace, bytes);
     let rest = parts::after(task, command, turn);
     if !rest.is_done {
-        let progress = progress::live(stored, session.t, answers);
+        let progress = progress::live(rt, stored, session.t, answers);
         return Rehearsal {
             console,
             progress,
@@ -135,7 +147,7 @@ fn call_part(
     }
     let last = turn.reply;
     let reply = parts::totalled(last, task.sum);
-    let progress = say_reply(stored, reply, instrument, console, work, answers);
+    let progress = say_reply(rt, stored, reply, instrument, console, work, answers);
     Rehearsal {
         console,
         progress,
@@ -153,15 +165,28 @@ fn task_of(p: Progress, command: Command) -> Task {
 }
 
 // The script's next line. Answers are out before a play's samples are written, which can fail.
-fn next_line(r: Rehearsal, input: &mut [u8; 65536], answers: &mut [u8; 16384]) -> Rehearsal {
+fn next_line(
+    rt: &impl System,
+    r: Rehearsal,
+    places: &mut Places,
+    input: &mut [u8; 65536],
+    answers: &mut [u8; 16384],
+) -> Rehearsal {
     let console = r.console;
     let session = console.session;
-    let asked = progress::read_line(r.progress, session.t, input, answers);
+    let asked = progress::read_line(
+        rt,
+        r.progress,
+        session.t,
+        &mut places.script,
+        input,
+        answers,
+    );
     let before = asked.progress;
-    let command = fitted(asked.command, before.wave);
+    let command = fitted(asked.command, places.wave.samples);
     let kind = command.kind;
     let progress = match kind {
-        Kind::Play => progress::flush(before, answers),
+        Kind::Play => progress::flush(rt, before, answers),
         _ => before,
     };
     let task = task_of(progress, command);
@@ -174,9 +199,10 @@ fn next_line(r: Rehearsal, input: &mut [u8; 65536], answers: &mut [u8; 16384]) -
 
 // A new line, or the next part of the last one.
 fn turn(
+    rt: &impl System,
     instrument: Instrument,
     r: Rehearsal,
-    places: Places,
+    places: &mut Places,
     work: &mut [f64; 662000],
     out: &mut [f64; 8192],
     trace: &mut [f64; 8192],
@@ -186,9 +212,9 @@ fn turn(
 ) -> Rehearsal {
     let task = r.task;
     if task.is_done {
-        return next_line(r, input, answers);
+        return next_line(rt, r, places, input, answers);
     }
-    call_part(instrument, r, places, work, out, trace, answers, bytes)
+    call_part(rt, instrument, r, places, work, out, trace, answers, bytes)
 }
 
 // Whether the rehearsal is over: nothing is left of the last line, and no other comes.
@@ -200,9 +226,10 @@ fn is_over(r: Rehearsal) -> bool {
 }
 
 fn rehearse_lines(
+    rt: &impl System,
     instrument: Instrument,
     start: Rehearsal,
-    places: Places,
+    places: &mut Places,
     work: &mut [f64; 662000],
     out: &mut [f64; 8192],
     trace: &mut [f64; 8192],
@@ -216,7 +243,7 @@ fn rehearse_lines(
             return r.progress;
         }
         let next = turn(
-            instrument, r, places, work, out, trace, input, answers, bytes,
+            rt, instrument, r, places, work, out, trace, input, answers, bytes,
         );
         r = next;
     }
@@ -226,35 +253,37 @@ fn rehearse_lines(
 // ---- the whole script
 
 // The samples' file is emptied, and its header written, once the opening's answer is out.
-fn begin_files(p: Progress, places: Places) -> Progress {
+fn begin_files(p: Progress, places: &mut Places) -> Progress {
     let ending = p.ending;
     if !goes_on(ending) {
         return p;
     }
-    let wave = p.wave;
-    let begun = with_wave(p, wave::begin(places.wave, wave.rate));
+    let out = mem::replace(&mut places.wave.out, output::none());
+    places.wave = wave::begin(out, places.wave.rate);
+    let begun = with_wave(p, &places.wave);
     if !places.has_forces {
         return begun;
     }
-    if output::cut(places.forces, 0) {
-        return begun;
+    match output::cut(&places.forces, 0) {
+        Ok(()) => begun,
+        Err(e) => progress::ended(begun, Ending::ForcesFailed(number_of(e))),
     }
-    progress::ended(begun, Ending::ForcesFailed(os::errno()))
 }
 
 // The opening's line comes first, then the script's.
 fn open_console(
+    rt: &impl System,
     instrument: Instrument,
     begun: Progress,
-    places: Places,
+    places: &mut Places,
     work: &mut [f64; 662000],
     answers: &mut [u8; 16384],
 ) -> Rehearsal {
     let turn = console::open(instrument, work);
     let console = turn.console;
     let reply = turn.reply;
-    let said = say_reply(begun, reply, instrument, console, work, answers);
-    let flushed = progress::flush(said, answers);
+    let said = say_reply(rt, begun, reply, instrument, console, work, answers);
+    let flushed = progress::flush(rt, said, answers);
     let progress = if console::is_opened(reply) {
         begin_files(flushed, places)
     } else {
@@ -267,15 +296,16 @@ fn open_console(
     }
 }
 
-fn finish(p: Progress, answers: &[u8; 16384]) -> Progress {
-    progress::flush(p, answers)
+fn finish(rt: &impl System, p: Progress, answers: &[u8; 16384]) -> Progress {
+    progress::flush(rt, p, answers)
 }
 
 // The program's memory: document 01's largest instrument has five parts of 132,384 cells. All answers are out at the end.
 pub fn play_script(
+    rt: &impl System,
     instrument: Instrument,
     begun: Progress,
-    places: Places,
+    places: &mut Places,
     input: &mut [u8; 65536],
 ) -> Progress {
     let mut work = [0.0; 662000];
@@ -283,8 +313,9 @@ pub fn play_script(
     let mut trace = [0.0; 8192];
     let mut answers = [0u8; 16384];
     let mut bytes = [0u8; 16384];
-    let opened = open_console(instrument, begun, places, &mut work, &mut answers);
+    let opened = open_console(rt, instrument, begun, places, &mut work, &mut answers);
     let last = rehearse_lines(
+        rt,
         instrument,
         opened,
         places,
@@ -295,5 +326,5 @@ pub fn play_script(
         &mut answers,
         &mut bytes,
     );
-    finish(last, &answers)
+    finish(rt, last, &answers)
 }

@@ -9,6 +9,8 @@ use lib.Dec.{leb, ltb}
 use borrow.Author.Tests.{lt-ltb, le-ltb, ltb-true, ltb-false}
 use lib.ListN.{length, take, drop, get_or, set, drop_of_length-le, length-drop, length-map, get_or-map}
 use lib.Seq.{drop-cons, take-suc, take-suc-set, take_all}
+use lib.Ieee.{nan}
+use Rattle.points.specs.declared.HammerState.TheVariants.{Resting}
 use Rattle.positions.specs.Positions.{count, is_in, above, up_to, greatest}
 use Rattle.positions.specs.Laws.{count_if}
 use Rattle.session_cues.specs.declared.Cue.{Cue}
@@ -56,6 +58,15 @@ kept_from cs first x r h e = go (ltb (slot_at x (drop first cs)) (length (drop f
     go : (b : Bool) → ltb (slot_at x (drop first cs)) (length (drop first cs)) ≡ b → ltb r (length cs) ≡ ltb (slot_at x (drop first cs)) (length (drop first cs))
     go true k = lt-ltb r (length cs) (omega (arith, length-drop first cs, ltb-true (slot_at x (drop first cs)) (length (drop first cs)) k)) ∙ sym k
     go false k = le-ltb r (length cs) (omega (arith, length-drop first cs, ltb-false (slot_at x (drop first cs)) (length (drop first cs)) k)) ∙ sym k
+
+-- the cue that a read past the slots would give
+abbrev pub no_cue : Cue
+no_cue =
+    record {
+      kept = false;
+      position = 0;
+      piano = record { held = []; hand_damped = []; damper_r = []; contact_samples = []; pedal = false; motion = record { hammer = Resting; peak_force = nan } };
+    }
 
 -- one slot
 module _ (cs : List Cue) (i : ℕ) (d : Cue) (more : i < length cs) where

@@ -1,7 +1,5 @@
 -- What owning a session tells: every premise of the law that it is read back. Assumes nothing.
-use mathlib.Core.Path.{sym, ◌∙◌}
 use mathlib.Core.List.{List, [], ◌∷◌}
-use lib.ListN.{length-map}
 use mir.Val.{Val}
 use denote.Array.{Array, each}
 use denote.Floats.{passes}
@@ -51,9 +49,9 @@ fit_session s vs g =
     let events = o.1.1.0.1 in
     let cues = o.1.1.1.0.1 in
     record {
-      events_long = sym (length-map s.events (TimedType.the_field).into) ∙ events.0.1;
-      events = all_owned (TimedType.the_field).into (TimedType.the_field).row.own_val FitTimed (λ x v h. fit_timed x _ h) s.events _ events.1;
-      cues_long = sym (length-map s.cues (CueType.the_field).into) ∙ cues.0.1;
-      cues = all_owned (CueType.the_field).into (CueType.the_field).row.own_val FitCue (λ x v h. fit_cue x _ h) s.cues _ cues.1;
+      events_long = events.0.1;
+      events = all_owned (Declared.row TimedType.the_type).own_val FitTimed (λ x v h. fit_timed x _ h) s.events _ events.1;
+      cues_long = cues.0.1;
+      cues = all_owned (Declared.row CueType.the_type).own_val FitCue (λ x v h. fit_cue x _ h) s.cues _ cues.1;
       piano = fit_piano s.piano _ o.1.1.1.1.0;
     }

@@ -1,16 +1,14 @@
 -- What owning a piano tells: every premise of the law that it is read back. Assumes nothing.
-use mathlib.Core.Path.{sym, ◌∙◌}
-use mathlib.Core.List.{List, [], ◌∷◌, map}
-use lib.ListN.{length-map}
+use mathlib.Core.List.{List, [], ◌∷◌}
 use mir.Val.{Val}
 use base.Fml.{Fml}
 use denote.Array.{each}
+use denote.Builtin.{f64}
 use denote.Floats.{passes}
 use denote.Laws.{Is}
 use denote.Shadow.{shadow}
 use denote.Enum.Declared as Chosen
 use denote.Struct.Declared as Declared
-use denote.Struct.Field.{bool-field, f64-field, u64-field}
 use Rattle.little_endian.specs.Floats.{Fit}
 use Rattle.points.specs.declared.HammerState.{HammerState}
 use Rattle.points.specs.declared.HammerState.TheVariants.{Resting, Flying}
@@ -23,12 +21,12 @@ use Rattle.session_words.specs.Items.{AllOf}
 use Rattle.session_words.specs.PianoLaws.{FitHammer, FitMotion, FitPiano}
 
 -- what owning one element tells holds of each element of an array
-pub all_owned : {C D : Type 0} (to : C → D) (own : D → List Val → Fml) (P : C → Type 0) → ((x : C) (v : Val) → shadow (own (to x) (v ∷ [])) → P x)
-    → (xs : List C) (us : List Val) → shadow (each D own (map to xs) us) → AllOf P xs
+pub all_owned : {C : Type 0} (own : C → List Val → Fml) (P : C → Type 0) → ((x : C) (v : Val) → shadow (own x (v ∷ [])) → P x)
+    → (xs : List C) (us : List Val) → shadow (each C own xs us) → AllOf P xs
 unfolding AllOf
-all_owned to own P tells [] us g = tt
-all_owned to own P tells (x ∷ xs) [] g = absurd g
-all_owned to own P tells (x ∷ xs) (u ∷ us) g = (tells x u g.0, all_owned to own P tells xs us g.1)
+all_owned own P tells [] us g = tt
+all_owned own P tells (x ∷ xs) [] g = absurd g
+all_owned own P tells (x ∷ xs) (u ∷ us) g = (tells x u g.0, all_owned own P tells xs us g.1)
 
 fit_hammer : (h : HammerState) (vs : List Val) → Is (Chosen.row HammerType.the_type) h vs → FitHammer h
 unfolding FitHammer
@@ -46,10 +44,10 @@ fit_piano p vs g =
     let damper = o.1.1.0.1 in
     let contacts = o.1.1.1.0.1 in
     record {
-      held_long = sym (length-map p.held bool-field.into) ∙ held.0.1;
-      hand_long = sym (length-map p.hand_damped bool-field.into) ∙ hand.0.1;
-      damper_long = sym (length-map p.damper_r f64-field.into) ∙ damper.0.1;
-      contacts_long = sym (length-map p.contact_samples u64-field.into) ∙ contacts.0.1;
-      dampers = all_owned f64-field.into f64-field.row.own_val Fit (λ x v g. passes _ g.1) p.damper_r _ damper.1;
+      held_long = held.0.1;
+      hand_long = hand.0.1;
+      damper_long = damper.0.1;
+      contacts_long = contacts.0.1;
+      dampers = all_owned f64.own_val Fit (λ x v g. passes _ g.1) p.damper_r _ damper.1;
       motion = fit_motion p.motion _ o.1.1.1.1.1.0;
     }

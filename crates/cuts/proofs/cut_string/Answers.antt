@@ -7,10 +7,12 @@ use Rattle.cuts.proofs.cut_string.Goals as goal
 pub overflow_add-na : goal.overflow_add-na
 overflow_add-na c =
     let end = c.larger.ensures ∙ ap (λ (m : ℕ). max m 1) c.saturating_sub.ensures in
-    record { fits = next_fits c.args.n c.larger.result c.Cell-at.result _ _ (omega arith) end c.Cell-at.ensures }
+    record { fits = next_fits c.args.n c.larger.result c.cell_at-na.result _ _ (omega arith) end c.cell_at-na.ensures }
 
 pub overflow_add-na-2 : goal.overflow_add-na-2
-overflow_add-na-2 c = add-cell-at c
+overflow_add-na-2 c =
+    let end = c.larger.ensures ∙ ap (λ (m : ℕ). max m 1) c.saturating_sub.ensures in
+    record { fits = next_fits c.args.n c.larger.result c.cell_at-na.result _ _ (omega arith) end c.cell_at-na.ensures }
 
 pub returns : goal.returns
 unfolding cuts_of
@@ -22,7 +24,7 @@ returns c =
       c.cell_at-nd.ensures,
       c.larger-2.ensures,
       c.saturating_sub-2.ensures,
-      c.Cell-at.ensures,
+      c.cell_at-na.ensures,
       c.larger.ensures,
       c.saturating_sub.ensures,
       c.half_of-half.ensures,

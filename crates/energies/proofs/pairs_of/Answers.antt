@@ -14,9 +14,9 @@ loop-k-init c = (refl, omega arith, pairs_start _ c.no_energy-none.result c.no_e
 pub loop-k-preserved : goal.loop-k-preserved
 loop-k-preserved c =
     let at = c.args in
-    (refl, omega arith, pairs_more (pair_of at.t1 at.sums.now) c.loop-k.pairs c.loop-k.k (omega arith) c.loop-k.invariant.2)
+    (refl, omega arith, pairs_more (pair_of at.instrument at.sums.now) c.loop-k.pairs c.loop-k.k (omega arith) c.loop-k.invariant.2)
 
 pub returns : goal.returns
 returns c =
     let at = c.args in
-    c.loop-k.invariant.2 ∙ ap (λ (m : ℕ). pad 16 no_energy (tabulate m (pair_of at.t1 at.sums.now))) (omega arith)
+    c.loop-k.invariant.2 ∙ ap (λ (m : ℕ). pad 16 no_energy (tabulate m (pair_of at.instrument at.sums.now))) (omega arith)

@@ -25,4 +25,4 @@ returns c =
 pub shape_of-cells : goal.shape_of-cells
 shape_of-cells c =
     let args = c.args in
-    ap length (returns-2 c).1 ∙ loop_length args.filter args.cells.now args.x
+    ap length (returns c).1 ∙ loop_length args.filter args.cells.now args.x

@@ -5,7 +5,7 @@ use Rattle.instrument.proofs.Sought.{sought_start, sought_found, sought_turn, so
 use Rattle.instrument.proofs.key_index.Goals as goal
 
 pub loop-k-init : goal.loop-k-init
-loop-k-init c = sought_start c.args.t1.keys c.args.t1.key_count c.args.key
+loop-k-init c = sought_start c.args.instrument.keys c.args.instrument.key_count c.args.key
 
 pub offset_bounds-instrument-k : goal.offset_bounds-instrument-k
 offset_bounds-instrument-k c = omega arith
@@ -16,7 +16,7 @@ bounds-instrument-k c = omega arith
 pub returns-then-d-key : goal.returns-then-d-key
 returns-then-d-key c =
     let at = c.args in
-    sought_found at.t1.keys at.t1.key_count at.key c.loop-k.k c.loop-k.invariant c.loop-k-test.true c.if-d-key.true
+    sought_found at.instrument.keys at.instrument.key_count at.key c.loop-k.k c.loop-k.invariant c.loop-k-test.true c.if-d-key.true
 
 pub overflow_step-k : goal.overflow_step-k
 overflow_step-k c = omega arith
@@ -27,9 +27,9 @@ loop-k-smaller c = omega arith
 pub loop-k-preserved : goal.loop-k-preserved
 loop-k-preserved c =
     let at = c.args in
-    sought_turn at.t1.keys at.t1.key_count at.key c.loop-k.k c.loop-k.invariant c.loop-k-test.true c.if-d-key.false
+    sought_turn at.instrument.keys at.instrument.key_count at.key c.loop-k.k c.loop-k.invariant c.loop-k-test.true c.if-d-key.false
 
 pub returns : goal.returns
 returns c =
     let at = c.args in
-    sought_end at.t1.keys at.t1.key_count at.key c.loop-k.k c.loop-k.invariant c.loop-k-test.false
+    sought_end at.instrument.keys at.instrument.key_count at.key c.loop-k.k c.loop-k.invariant c.loop-k-test.false

@@ -6,7 +6,7 @@ use Rattle.instrument.proofs.Added.{Added}
 use Rattle.instrument.proofs.part_cells.Given as goal
 
 abbrev pub invariant-loop-j : goal.invariant-loop-j
-invariant-loop-j l = Added l.s 4137 (λ (l.j : ℕ). counted_cells (string_at l.strings l.j)) l.w l.j
+invariant-loop-j l = Added l.s 4137 (λ (j : ℕ). counted_cells (string_at l.strings j)) l.w l.j
 
 abbrev pub decreases-loop-j : goal.decreases-loop-j
 decreases-loop-j l = l.s - l.j

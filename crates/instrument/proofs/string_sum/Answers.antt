@@ -12,12 +12,12 @@ loop-i-init c = added_none
 
 pub overflow_add-m : goal.overflow_add-m
 overflow_add-m c =
-    let few = few_strings_lem c.args.t1 c.args.n c.requires.1 c.loop-i.i (omega arith) in
+    let few = few_strings_lem c.args.keys c.args.n c.requires.1 c.loop-i.i (omega arith) in
     omega arith
 
 pub loop-i-preserved : goal.loop-i-preserved
 loop-i-preserved c =
-    let few = few_strings_lem c.args.t1 c.args.n c.requires.1 c.loop-i.i (omega arith) in
+    let few = few_strings_lem c.args.keys c.args.n c.requires.1 c.loop-i.i (omega arith) in
     added_next c.loop-i.invariant (omega arith) refl few
 
 pub returns : goal.returns

@@ -22,7 +22,7 @@ overflow_add-i c =
 pub put_sections-requires : goal.put_sections-requires
 put_sections-requires c =
     let size = encode_length c.args.i c.requires.0 in
-    let kept = c.put_table.auto.0 in
+    let kept = c.put_table.auto.b in
     (c.requires.0, omega arith)
 
 pub returns : goal.returns

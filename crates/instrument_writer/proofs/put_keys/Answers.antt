@@ -11,7 +11,7 @@ pub loop-k-init : goal.loop-k-init
 unfolding gather
 loop-k-init c =
     let a = c.args in
-    (refl, refl, at_none a.t3 a.p (length a.b.now) c.requires.0 c.requires.1, refl)
+    (refl, refl, at_none a.i a.p (length a.b.now) c.requires.0 c.requires.1, refl)
 
 pub offset_bounds-i-k : goal.offset_bounds-i-k
 offset_bounds-i-k c = let fits = key_fits _ _ _ _ _ _ c.loop-k.invariant.2 (omega arith) in omega arith
@@ -44,9 +44,9 @@ pub loop-k-preserved : goal.loop-k-preserved
 loop-k-preserved c =
     let a = c.args in (
       c.loop-k.invariant.0,
-      c.put_key.auto.0 ∙ c.loop-k.invariant.1,
-      at_next a.t3 a.p (length a.b.now) c.loop-k.at c.loop-k.m c.loop-k.k c.loop-k.invariant.2 (omega arith),
-      key_next a.t3 a.b.now c.loop-k.b _ a.p c.loop-k.m c.loop-k.k c.loop-k.at c.loop-k.invariant.2.sum c.loop-k.invariant.2.place c.loop-k.invariant.3 c.put_key.ensures,
+      c.put_key.auto.b ∙ c.loop-k.invariant.1,
+      at_next a.i a.p (length a.b.now) c.loop-k.at c.loop-k.m c.loop-k.k c.loop-k.invariant.2 (omega arith),
+      key_next a.i a.b.now c.loop-k.b _ a.p c.loop-k.m c.loop-k.k c.loop-k.at c.loop-k.invariant.2.sum c.loop-k.invariant.2.place c.loop-k.invariant.3 c.put_key.ensures,
     )
 
 pub shape_of-b : goal.shape_of-b
@@ -55,5 +55,5 @@ shape_of-b c = c.loop-k.invariant.1
 pub returns : goal.returns
 returns c =
     let below = c.loop-k.invariant.2.below in
-    let all : c.loop-k.k ≡ c.args.t3.key_count = omega arith in
+    let all : c.loop-k.k ≡ c.args.i.key_count = omega arith in
     rw all at c.loop-k.invariant.3

@@ -10,7 +10,7 @@ use Rattle.instrument_writer.proofs.put_keys.Given as goal
 
 abbrev pub invariant-loop-k : goal.invariant-loop-k
 invariant-loop-k l =
-    (l.k-end ≡ l.i.key_count) × (length l.b ≡ length l.initial.b) × AtKey l.i l.p (length l.initial.b) l.at l.m l.k × (l.b ≡ sets l.initial.b l.p (gather l.k (λ l.k section_bytes l.i (suc l.k))))
+    (l.k-end ≡ l.i.key_count) × (length l.b ≡ length l.initial.b) × AtKey l.i l.p (length l.initial.b) l.at l.m l.k × (l.b ≡ sets l.initial.b l.p (gather l.k (λ k. section_bytes l.i (suc k))))
 
 abbrev pub decreases-loop-k : goal.decreases-loop-k
 decreases-loop-k l = l.k-end - l.k

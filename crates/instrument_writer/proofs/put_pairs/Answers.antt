@@ -11,7 +11,7 @@ pub loop-k-init : goal.loop-k-init
 unfolding gather
 loop-k-init c =
     let a = c.args in
-    (refl, refl, pair_none a.t2 (length a.b.now) c.requires.0 c.requires.1, refl)
+    (refl, refl, pair_none a.i (length a.b.now) c.requires.0 c.requires.1, refl)
 
 pub offset_bounds-i-k : goal.offset_bounds-i-k
 offset_bounds-i-k c = let fits = pair_fits _ _ _ _ c.loop-k.invariant.2 (omega arith) in omega arith
@@ -47,9 +47,9 @@ pub loop-k-preserved : goal.loop-k-preserved
 loop-k-preserved c =
     let a = c.args in (
       c.loop-k.invariant.0,
-      c.put_pair.auto.0 ∙ c.loop-k.invariant.1,
-      pair_on a.t2 (length a.b.now) c.loop-k.offset c.loop-k.k c.loop-k.invariant.2 (omega arith),
-      pair_next a.t2 a.b.now c.loop-k.b _ c.loop-k.offset c.loop-k.k c.loop-k.invariant.2.place c.loop-k.invariant.3 c.put_pair.ensures,
+      c.put_pair.auto.b ∙ c.loop-k.invariant.1,
+      pair_on a.i (length a.b.now) c.loop-k.offset c.loop-k.k c.loop-k.invariant.2 (omega arith),
+      pair_next a.i a.b.now c.loop-k.b _ c.loop-k.offset c.loop-k.k c.loop-k.invariant.2.place c.loop-k.invariant.3 c.put_pair.ensures,
     )
 
 pub shape_of-b : goal.shape_of-b
@@ -58,5 +58,5 @@ shape_of-b c = c.loop-k.invariant.1
 pub returns : goal.returns
 returns c =
     let below = c.loop-k.invariant.2.below in
-    let all : c.loop-k.k ≡ c.args.t2.key_count = omega arith in
+    let all : c.loop-k.k ≡ c.args.i.key_count = omega arith in
     rw all at c.loop-k.invariant.3

@@ -10,7 +10,7 @@ use Rattle.instrument_writer.proofs.put_pairs.Given as goal
 
 abbrev pub invariant-loop-k : goal.invariant-loop-k
 invariant-loop-k l =
-    (l.n ≡ l.i.key_count) × (length l.b ≡ length l.initial.b) × AtPair l.i (length l.initial.b) l.offset l.k × (l.b ≡ sets l.initial.b 12 (gather l.k (λ l.k pair_bytes l.i (suc l.k))))
+    (l.n ≡ l.i.key_count) × (length l.b ≡ length l.initial.b) × AtPair l.i (length l.initial.b) l.offset l.k × (l.b ≡ sets l.initial.b 12 (gather l.k (λ k. pair_bytes l.i (suc k))))
 
 abbrev pub decreases-loop-k : goal.decreases-loop-k
 decreases-loop-k l = l.n - l.k

@@ -17,8 +17,8 @@ loop-j-preserved c =
       omega arith,
       c.loop-j.invariant.1,
       c.loop-j.invariant.2,
-      c.put_string.auto.0 ∙ c.loop-j.invariant.3,
-      string_next (λ j. string_at a.t3 (a.m + j)) a.b.now c.loop-j.b _ a.p c.loop-j.j c.loop-j.invariant.4 c.put_string.ensures,
+      c.put_string.auto.b ∙ c.loop-j.invariant.3,
+      string_next (λ j. string_at a.strings (a.m + j)) a.b.now c.loop-j.b _ a.p c.loop-j.j c.loop-j.invariant.4 c.put_string.ensures,
     )
 
 pub shape_of-b : goal.shape_of-b

@@ -10,7 +10,7 @@ use Rattle.instrument_writer.proofs.put_strings.Given as goal
 
 abbrev pub invariant-loop-j : goal.invariant-loop-j
 invariant-loop-j l =
-    (l.j ≤ l.s) × (l.m + l.s ≤ 32) × (l.p + 44 * l.s ≤ length l.initial.b) × (length l.b ≡ length l.initial.b) × (l.b ≡ sets l.initial.b l.p (gather l.j (λ l.j string_bytes (string_at l.strings (l.m + l.j)))))
+    (l.j ≤ l.s) × (l.m + l.s ≤ 32) × (l.p + 44 * l.s ≤ length l.initial.b) × (length l.b ≡ length l.initial.b) × (l.b ≡ sets l.initial.b l.p (gather l.j (λ j. string_bytes (string_at l.strings (l.m + j)))))
 
 abbrev pub decreases-loop-j : goal.decreases-loop-j
 decreases-loop-j l = l.s - l.j

@@ -10,7 +10,7 @@ overflow_cast-n c = let counts = valid_counts c.args.i c.requires.0 in omega ari
 pub put_pair-requires : goal.put_pair-requires
 put_pair-requires c =
     let counts = valid_counts c.args.i c.requires.0 in
-    let kept = c.put_u32.auto.0 in
+    let kept = c.put_u32.auto.b in
     (omega arith, omega arith, omega arith)
 
 pub returns : goal.returns

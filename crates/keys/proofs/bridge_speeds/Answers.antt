@@ -8,10 +8,8 @@ use lib.Ieee.{Float, nan}
 use Rattle.cells.specs.Numbered.{folded_start, folded_turn, folded_end}
 use Rattle.keys.specs.declared.KeyConstants.{KeyConstants}
 use Rattle.keys.specs.Keys.{constants_at, speed_of, speeds}
+use Rattle.keys.proofs.bridge_speeds.Invariants.{turn}
 use Rattle.keys.proofs.bridge_speeds.Goals as goal
-
-abbrev turn : Float → Float → ℕ → KeyConstants → List Float → List Float
-turn yz total k key a = set a k (speed_of yz total key (get_or a k nan))
 
 pub loop-k-init : goal.loop-k-init
 loop-k-init c = let at = c.args in folded_start (constants_at at.table.now) (turn at.yz at.total) at.n at.sums.now

@@ -9,10 +9,8 @@ use lib.Ieee.{Float, nan}
 use Rattle.cells.specs.Numbered.{folded_start, folded_turn, folded_end}
 use Rattle.keys.specs.declared.KeyConstants.{KeyConstants}
 use Rattle.keys.specs.Keys.{constants_at, damped_of, dampers}
+use Rattle.keys.proofs.move_dampers.Invariants.{turn}
 use Rattle.keys.proofs.move_dampers.Goals as goal
-
-abbrev turn : List Bool → ℕ → KeyConstants → List Float → List Float
-turn down k key r = set r k (damped_of key (get_or down k false) (get_or r k nan))
 
 pub loop-k-init : goal.loop-k-init
 loop-k-init c = let at = c.args in folded_start (constants_at at.table.now) (turn at.down.now) at.n at.damper_r.now

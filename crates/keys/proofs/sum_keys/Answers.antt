@@ -10,10 +10,8 @@ use Rattle.string.specs.declared.StringDesign.{StringDesign}
 use Rattle.string.specs.Table.{design_at}
 use Rattle.strings.specs.Laws.{key_fits}
 use Rattle.keys.specs.Keys.{sums_from}
+use Rattle.keys.proofs.sum_keys.Invariants.{turn}
 use Rattle.keys.proofs.sum_keys.Goals as goal
-
-abbrev turn : List Float → ℕ → StringDesign → List Float → List Float
-turn v i d s = set s d.key (add binary64 (get_or s d.key nan) (get_or v i nan))
 
 pub loop-i-init : goal.loop-i-init
 loop-i-init c = let at = c.args in folded_start (design_at at.lengths.now at.coefficients.now) (turn at.v_in.now) at.n at.sums.now

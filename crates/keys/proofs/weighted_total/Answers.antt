@@ -9,10 +9,8 @@ use lib.Ieee.{Float, nan, binary64, add, mul}
 use Rattle.cells.specs.Numbered.{folded_start, folded_turn, folded_end}
 use Rattle.keys.specs.declared.KeyConstants.{KeyConstants}
 use Rattle.keys.specs.Keys.{constants_at, weighted_total}
+use Rattle.keys.proofs.weighted_total.Invariants.{turn}
 use Rattle.keys.proofs.weighted_total.Goals as goal
-
-abbrev turn : List Float → ℕ → KeyConstants → Float → Float
-turn sums k key x = add binary64 x (mul binary64 key.weight (get_or sums k nan))
 
 pub loop-k-init : goal.loop-k-init
 loop-k-init c = let at = c.args in folded_start (constants_at at.table.now) (turn at.sums.now) at.n +0

@@ -5,16 +5,14 @@ use Rattle.points.proofs.feel.Goals as goal
 
 pub returns-in-Resting : goal.returns-in-Resting
 unfolding contact_of
-returns-in-Resting c = rw c.enum_told-1.given.1
+returns-in-Resting c = rw c.in-Resting.is
 
 pub returns-then-key_index-key : goal.returns-then-key_index-key
 unfolding contact_of
 returns-then-key_index-key c =
-    let flying = c.h-1.given in
-    rw (flying.1, eq-eqb flying.0.0 c.args.key c.if-key_index-key.true) c.touch.ensures
+    rw (c.in-Flying.is, eq-eqb c.in-Flying.key_index c.args.key c.if-key_index-key.true) c.touch.ensures
 
 pub returns-else-key_index-key : goal.returns-else-key_index-key
 unfolding contact_of
 returns-else-key_index-key c =
-    let flying = c.h-1.given in
-    rw (flying.1, ne_eqb flying.0.0 c.args.key c.if-key_index-key.false)
+    rw (c.in-Flying.is, ne_eqb c.in-Flying.key_index c.args.key c.if-key_index-key.false)

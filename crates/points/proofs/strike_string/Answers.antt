@@ -13,7 +13,7 @@ bounds-part-y-2 c =
     simp length-set (omega (arith, c.at_y_s-y.ensures, long))
 
 pub shape_of-part : goal.shape_of-part
-shape_of-part c = c.write_string.auto.0 ∙ simp length-set
+shape_of-part c = c.write_string.auto.part ∙ simp length-set
 
 pub returns : goal.returns
 unfolding struck

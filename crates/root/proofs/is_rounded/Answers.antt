@@ -31,7 +31,7 @@ returns-then-d-p c =
     let k = known in
     let e = after_1 _ _ _ k.is c.if-p-d.true (omega (arith, c.if-d-p.true)) in
     sym (of_bits-to_bits binary64 c.args.g (subst T (sym c.well_formed.0.1) tt))
-    ∙ ap (λ (b : ℕ). of_bits binary64 b) (pattern_is (to_bits binary64 c.args.g) c.args.low c.wrapping_sub_u64-p.result _ c.wrapping_sub_u64-p.ensures k.small c.requires.fact_2 e)
+    ∙ ap (λ (b : ℕ). of_bits binary64 b) (pattern_is (to_bits binary64 c.args.g) c.args.low c.wrapping_sub_u64-p.result _ c.wrapping_sub_u64-p.ensures.value k.small c.requires.fact_2 e)
 
 pub returns-else-d-p : goal.returns-else-d-p
 returns-else-d-p c = λ t. absurd (false≢true t)

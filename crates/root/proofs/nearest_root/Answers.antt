@@ -1,6 +1,7 @@
 -- `root::nearest_root` meets its contract. Before turn i the next digit's weight is half of d = 2 ^ (53 - i), and twice the number is y * d + 2 * q * q. Assumes nothing.
-use Rattle.std.proofs.Common.{◌-◌, ◌*◌, ◌^◌, ⊎_elim, arith}
+use Rattle.std.proofs.Common.{◌-◌, ◌*◌, ◌^◌, arith}
 use Rattle.root.proofs.Squares.{turn_kept, turn_new, last_root, round_down, round_up}
+use Rattle.root.proofs.nearest_root.Goals.{then-t-y, else-t-y}
 use Rattle.root.proofs.nearest_root.Goals as goal
 
 pub loop-i-init : goal.loop-i-init
@@ -16,7 +17,7 @@ pub overflow_add-q : goal.overflow_add-q
 overflow_add-q c = omega arith
 
 pub overflow_mul-y : goal.overflow_mul-y
-overflow_mul-y c = ⊎_elim (λ w. omega arith) (λ w. omega arith) c.if-t-y.branch
+overflow_mul-y c = elim c.if-t-y.branch [ then-t-y w ↦ omega arith | else-t-y w ↦ omega arith ]
 
 pub overflow_add-i : goal.overflow_add-i
 overflow_add-i c = omega arith
@@ -26,10 +27,10 @@ loop-i-smaller c = omega arith
 
 pub loop-i-preserved : goal.loop-i-preserved
 loop-i-preserved c =
-    ⊎_elim
-    (λ w. rw (w.1, w.2) (turn_new _ c.loop-i.q c.loop-i.y c.loop-i.d c.loop-i.i c.loop-i.invariant c.loop-i-test.true w.0.taken))
-    (λ w. rw (w.1, w.2) (turn_kept _ c.loop-i.q c.loop-i.y c.loop-i.d c.loop-i.i c.loop-i.invariant c.loop-i-test.true w.0.left))
-    c.if-t-y.branch
+    elim c.if-t-y.branch [
+      | then-t-y w ↦ rw (w.q-is, w.y-is) (turn_new _ c.loop-i.q c.loop-i.y c.loop-i.d c.loop-i.i c.loop-i.invariant c.loop-i-test.true w.if-t-y.true)
+      | else-t-y w ↦ rw (w.q-is, w.y-is) (turn_kept _ c.loop-i.q c.loop-i.y c.loop-i.d c.loop-i.i c.loop-i.invariant c.loop-i-test.true w.if-t-y.false)
+    ]
 
 pub overflow_mul-q : goal.overflow_mul-q
 overflow_mul-q c = omega arith

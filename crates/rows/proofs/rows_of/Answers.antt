@@ -79,9 +79,9 @@ loop-l-preserved c =
     let is = c.design_at-d.ensures in
     let l = c.loop-l.l in (
       omega arith,
-      rw is c (ap (λ (k : ℕ). c.loop-l.at + k) c.size-at.ensures) ∙ ap (λ (k : ℕ). k + size_of (f (args.i + l))) c.loop-l.invariant.1 ∙ sym (start_after f args.i l),
+      rw is at (ap (λ (k : ℕ). c.loop-l.at + k) c.size-at.ensures) ∙ ap (λ (k : ℕ). k + size_of (f (args.i + l))) c.loop-l.invariant.1 ∙ sym (start_after f args.i l),
       laid_turn f c.loop-l.invariant.2 (omega (arith, c.loop-l.invariant.3)) (omega (arith, c.loop-l.invariant.4)) (c.loop-l.at + c.at_row.result) c.design_at-d.result.filter.ap_a c.less-stages.result
-          (rw is c (ap (λ (k : ℕ). c.loop-l.at + k) c.at_row.ensures) ∙ ap (λ (k : ℕ). k + at_row (f (args.i + l))) c.loop-l.invariant.1) (rw is) c.less-stages.ensures.0 (rw is c c.less-stages.ensures.1),
+          (rw is at (ap (λ (k : ℕ). c.loop-l.at + k) c.at_row.ensures) ∙ ap (λ (k : ℕ). k + at_row (f (args.i + l))) c.loop-l.invariant.1) (rw is) c.less-stages.ensures.0 (rw is at c.less-stages.ensures.1),
       simp length-set c.loop-l.invariant.3,
       simp length-set c.loop-l.invariant.4,
     )

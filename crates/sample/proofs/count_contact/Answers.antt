@@ -18,29 +18,29 @@ room counts h k y v can e = subst (CanCount counts) e can
 
 pub offset_bounds-contact_samples-key_index : goal.offset_bounds-contact_samples-key_index
 offset_bounds-contact_samples-key_index c =
-    let flies = c.h-1.given in
-    record { fits = omega (arith, (room c.args.contact_samples.now c.args.h _ _ _ c.requires flies.1).0) }
+    let flies = c.in-Flying.is in
+    record { fits = omega (arith, (room c.args.contact_samples.now c.args.h _ _ _ c.requires flies).0) }
 
 pub bounds-contact_samples-key_index : goal.bounds-contact_samples-key_index
 bounds-contact_samples-key_index c =
-    (room c.args.contact_samples.now c.args.h _ _ _ c.requires c.h-1.given.1).0
+    (room c.args.contact_samples.now c.args.h _ _ _ c.requires c.in-Flying.is).0
 
 pub overflow_add-contact_samples : goal.overflow_add-contact_samples
 overflow_add-contact_samples c =
-    record { fits = (room c.args.contact_samples.now c.args.h _ _ _ c.requires c.h-1.given.1).1 }
+    record { fits = (room c.args.contact_samples.now c.args.h _ _ _ c.requires c.in-Flying.is).1 }
 
 pub bounds-contact_samples-key_index-then-contact : goal.bounds-contact_samples-key_index-then-contact
 bounds-contact_samples-key_index-then-contact c =
-    (room c.args.contact_samples.now c.args.h _ _ _ c.requires c.h-1.given.1).0
+    (room c.args.contact_samples.now c.args.h _ _ _ c.requires c.in-Flying.is).0
 
 pub returns-in-Resting : goal.returns-in-Resting
 unfolding counted_for
-returns-in-Resting c = rw c.enum_told-1.given.1
+returns-in-Resting c = rw c.in-Resting.is
 
 pub returns-then-contact : goal.returns-then-contact
 unfolding counted_for
-returns-then-contact c = rw (c.h-1.given.1, c.if-contact.true)
+returns-then-contact c = rw (c.in-Flying.is, c.if-contact.true)
 
 pub returns-else-contact : goal.returns-else-contact
 unfolding counted_for
-returns-else-contact c = rw (c.h-1.given.1, c.if-contact.false)
+returns-else-contact c = rw (c.in-Flying.is, c.if-contact.false)

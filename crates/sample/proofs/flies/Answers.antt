@@ -4,8 +4,8 @@ use Rattle.sample.proofs.flies.Goals as goal
 
 pub returns-in-Resting : goal.returns-in-Resting
 unfolding pushed_by
-returns-in-Resting c = rw c.enum_told-1.given.1
+returns-in-Resting c = rw c.in-Resting.is
 
 pub returns-in-Flying : goal.returns-in-Flying
 unfolding pushed_by
-returns-in-Flying c = rw c.h-1.given.1
+returns-in-Flying c = rw c.in-Flying.is

@@ -4,14 +4,14 @@ use Rattle.sample.proofs.move_hammer.Goals as goal
 
 pub returns-in-Resting : goal.returns-in-Resting
 unfolding moved
-returns-in-Resting c = rw c.enum_told-1.given.1
+returns-in-Resting c = rw c.in-Resting.is
 
 pub returns-then-f : goal.returns-then-f
 unfolding moved
 returns-then-f c =
-    rw (c.h-1.given.1, c.hammer_after-after.ensures, c.if-f.true, c.max.ensures)
+    rw (c.in-Flying.is, c.hammer_after-after.ensures, c.if-f.true, c.max.ensures)
 
 pub returns-else-f : goal.returns-else-f
 unfolding moved
 returns-else-f c =
-    rw (c.h-1.given.1, c.hammer_after-after.ensures, c.if-f.false)
+    rw (c.in-Flying.is, c.hammer_after-after.ensures, c.if-f.false)

@@ -26,14 +26,14 @@ strike_strings-f-requires c =
     record {
       all_fit = ready.fit;
       indexed = c.requires.indexed;
-      n_in_bounds = omega (arith, c.filter_strings.auto.0, ready.cells);
+      n_in_bounds = omega (arith, c.filter_strings.auto.part, ready.cells);
     }
 
 pub bridge-out-requires : goal.bridge-out-requires
 bridge-out-requires c =
     let kept = c.filter_strings.auto in
     record {
-      ready = ready_kept c.requires.ready (c.strike_strings-f.auto.0 ∙ kept.0) kept.1.0;
+      ready = ready_kept c.requires.ready (c.strike_strings-f.auto.part ∙ kept.part) kept.scratch;
       indexed = c.requires.indexed;
     }
 

@@ -31,7 +31,7 @@ loop-k-smaller c = omega arith
 pub loop-k-preserved : goal.loop-k-preserved
 unfolding key_in
 loop-k-preserved c =
-    let at = c.args.t1 in
+    let at = c.args.instrument in
     let table = c.put_constants.new.table in
     let put = c.put_constants.ensures in (
       omega (arith, c.loop-k-test.true),

@@ -24,7 +24,7 @@ loop-k-smaller c = omega arith
 
 pub loop-k-preserved : goal.loop-k-preserved
 loop-k-preserved c =
-    let at = c.args.t1 in
+    let at = c.args.instrument in
     let k = c.loop-k.k in
     let x = (valid.key_at at.keys k).strings in
     let h : c.loop-k.k < length c.loop-k.counts = omega (arith, c.requires, c.loop-k-test.true, c.loop-k.invariant.1) in (

@@ -12,19 +12,19 @@ loop-i-init c = (omega arith, refl, refl, λ j h. let z : ⊥ = omega arith in a
 
 pub offset_bounds-instrument-k : goal.offset_bounds-instrument-k
 offset_bounds-instrument-k c =
-    let owner-is : c.owner-k.result ≡ owner_in c.args.t1 c.loop-i.i = let at = c.args.t1 in
+    let owner-is : c.owner-k.result ≡ owner_in c.args.instrument c.loop-i.i = let at = c.args.instrument in
     c.owner-k.ensures
     ∙ owner_same (λ k. get_or c.string_counts-counts.result k 0) (λ k. (valid.key_at at.keys k).strings) 0 at.key_count c.loop-i.i
     (λ k h. c.string_counts-counts.ensures.each k (omega arith)) in
-    omega (arith, owner-is, owner_fits c.args.t1 c.loop-i.i c.requires.key_count_bound)
+    omega (arith, owner-is, owner_fits c.args.instrument c.loop-i.i c.requires.key_count_bound)
 
 pub bounds-instrument-k : goal.bounds-instrument-k
 bounds-instrument-k c =
-    let owner-is : c.owner-k.result ≡ owner_in c.args.t1 c.loop-i.i = let at = c.args.t1 in
+    let owner-is : c.owner-k.result ≡ owner_in c.args.instrument c.loop-i.i = let at = c.args.instrument in
     c.owner-k.ensures
     ∙ owner_same (λ k. get_or c.string_counts-counts.result k 0) (λ k. (valid.key_at at.keys k).strings) 0 at.key_count c.loop-i.i
     (λ k h. c.string_counts-counts.ensures.each k (omega arith)) in
-    omega (arith, owner-is, owner_fits c.args.t1 c.loop-i.i c.requires.key_count_bound)
+    omega (arith, owner-is, owner_fits c.args.instrument c.loop-i.i c.requires.key_count_bound)
 
 pub offset_bounds-instrument-i : goal.offset_bounds-instrument-i
 offset_bounds-instrument-i c = omega arith
@@ -46,11 +46,11 @@ loop-i-smaller c = omega arith
 pub loop-i-preserved : goal.loop-i-preserved
 unfolding string_in
 loop-i-preserved c =
-    let owner-is : c.owner-k.result ≡ owner_in c.args.t1 c.loop-i.i = let at = c.args.t1 in
+    let owner-is : c.owner-k.result ≡ owner_in c.args.instrument c.loop-i.i = let at = c.args.instrument in
     c.owner-k.ensures
     ∙ owner_same (λ k. get_or c.string_counts-counts.result k 0) (λ k. (valid.key_at at.keys k).strings) 0 at.key_count c.loop-i.i
     (λ k h. c.string_counts-counts.ensures.each k (omega arith)) in
-    let at = c.args.t1 in
+    let at = c.args.instrument in
     let i = c.loop-i.i in
     let key_is = ap (λ (k : ℕ). string_of (valid.string_at at.strings i) (valid.key_at at.keys k) k) (owner-is) in
     let lengths = c.put_design.new.lengths in

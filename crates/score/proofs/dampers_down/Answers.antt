@@ -28,7 +28,7 @@ loop-k-smaller c = omega arith
 
 pub loop-k-preserved : goal.loop-k-preserved
 loop-k-preserved c =
-    told_turn c.args.t1 c.args.piano c.loop-k.down c.loop-k.k c.loop-k.invariant c.loop-k-test.true c.requires
+    told_turn c.args.instrument c.args.piano c.loop-k.down c.loop-k.k c.loop-k.invariant c.loop-k-test.true c.requires
 
 pub returns : goal.returns
 returns c =

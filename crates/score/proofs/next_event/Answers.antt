@@ -25,9 +25,9 @@ loop-i-smaller c = omega arith
 pub loop-i-preserved : goal.loop-i-preserved
 loop-i-preserved c =
     let at = c.args in
-    (omega arith, later_turn at.t1.events at.from c.loop-i.next c.loop-i.i c.sooner-next.result c.loop-i.invariant.1 c.sooner-next.ensures.0 c.sooner-next.ensures.1)
+    (omega arith, later_turn at.score.events at.from c.loop-i.next c.loop-i.i c.sooner-next.result c.loop-i.invariant.1 c.sooner-next.ensures.0 c.sooner-next.ensures.1)
 
 pub returns : goal.returns
 returns c =
     let at = c.args in
-    later_end at.t1.events at.from c.loop-i.next at.t1.count c.loop-i.i c.loop-i.invariant.1 c.loop-i-test.false
+    later_end at.score.events at.from c.loop-i.next at.score.count c.loop-i.i c.loop-i.invariant.1 c.loop-i-test.false

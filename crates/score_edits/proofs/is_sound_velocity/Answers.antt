@@ -5,16 +5,16 @@ use Rattle.score_edits.proofs.is_sound_velocity.Goals as goal
 
 pub returns-in-NoteOn : goal.returns-in-NoteOn
 unfolding sound_velocity of_bits of_int neg
-returns-in-NoteOn c = rw c.event-1.given.1
+returns-in-NoteOn c = rw c.in-NoteOn.is
 
 pub returns-in-NoteOff : goal.returns-in-NoteOff
 unfolding sound_velocity
-returns-in-NoteOff c = rw c.enum_told-1.given.1
+returns-in-NoteOff c = rw c.in-NoteOff.is
 
 pub returns-in-Pedal : goal.returns-in-Pedal
 unfolding sound_velocity
-returns-in-Pedal c = rw c.enum_told-in-Pedal-1.given.1
+returns-in-Pedal c = rw c.in-Pedal.is
 
 pub returns-in-HandDamp : goal.returns-in-HandDamp
 unfolding sound_velocity
-returns-in-HandDamp c = rw c.enum_told-in-HandDamp-1.given.1
+returns-in-HandDamp c = rw c.in-HandDamp.is

@@ -15,7 +15,7 @@ loop-j-init c = (
   search rules,
   search rules,
   simp length-set (search rules),
-  up_none c.args.t1 c.args.count c.place_of-place.result c.args.timed (search rules) (omega arith) (omega arith),
+  up_none c.args.events c.args.count c.place_of-place.result c.args.timed (search rules) (omega arith) (omega arith),
 )
 
 pub loop-j-preserved : goal.loop-j-preserved
@@ -27,11 +27,11 @@ loop-j-preserved c =
       c.loop-j.invariant.3,
       c.loop-j.invariant.4,
       simp length-set c.loop-j.invariant.5,
-      up_turn from.t1 from.count c.place_of-place.result from.timed c.loop-j.invariant.4 (omega arith) (omega arith) c.loop-j.out c.loop-j.j (omega arith) c.loop-j.invariant.6,
+      up_turn from.events from.count c.place_of-place.result from.timed c.loop-j.invariant.4 (omega arith) (omega arith) c.loop-j.out c.loop-j.j (omega arith) c.loop-j.invariant.6,
     )
 
 pub returns : goal.returns
 returns c =
     let from = c.args in
-    up_done from.t1 from.count c.place_of-place.result from.timed c.loop-j.invariant.4 (omega arith) (omega arith) c.loop-j.out c.loop-j.j (omega arith) c.loop-j.invariant.6
+    up_done from.events from.count c.place_of-place.result from.timed c.loop-j.invariant.4 (omega arith) (omega arith) c.loop-j.out c.loop-j.j (omega arith) c.loop-j.invariant.6
     c.place_of-place.ensures.1

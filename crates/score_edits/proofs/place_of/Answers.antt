@@ -2,28 +2,25 @@
 use mathlib.Core.Path.{sym, ◌∙◌}
 use Prim.Native.Nat.{◌-◌}
 use native.Mathlib.Omega.{arith}
-use borrow.Author.Tests.{not-true, not-false}
 use Rattle.score_edits.proofs.Walk.{place_turn, place_here, place_end}
 use Rattle.score_edits.proofs.place_of.Goals as goal
 
 pub returns-then-not-may_precede : goal.returns-then-not-may_precede
-returns-then-not-may_precede c =
-    (
-      omega arith,
-      place_here c.args.t1 c.args.count c.loop-i.i (omega arith) (omega arith) c.args.timed
-          (sym c.may_precede.ensures ∙ not-true _ c.if-not-may_precede.true) c.loop-i.invariant.3,
-    )
+returns-then-not-may_precede c = (
+  omega arith,
+  place_here c.args.events c.args.count c.loop-i.i (omega arith) (omega arith) c.args.timed
+      (sym c.may_precede.ensures ∙ c.if-not-may_precede.true) c.loop-i.invariant.3,
+)
 
 pub loop-i-preserved : goal.loop-i-preserved
-loop-i-preserved c =
-    (
-      omega arith,
-      c.loop-i.invariant.1,
-      c.loop-i.invariant.2,
-      place_turn c.args.t1 c.args.count c.loop-i.i (omega arith) (omega arith) c.args.timed
-          (sym c.may_precede.ensures ∙ not-false _ c.if-not-may_precede.false) c.loop-i.invariant.3,
-    )
+loop-i-preserved c = (
+  omega arith,
+  c.loop-i.invariant.1,
+  c.loop-i.invariant.2,
+  place_turn c.args.events c.args.count c.loop-i.i (omega arith) (omega arith) c.args.timed
+      (sym c.may_precede.ensures ∙ c.if-not-may_precede.false) c.loop-i.invariant.3,
+)
 
 pub returns : goal.returns
 returns c =
-    (omega arith, place_end c.args.t1 c.args.count c.loop-i.i (omega arith) (omega arith) c.args.timed c.loop-i.invariant.3)
+    (omega arith, place_end c.args.events c.args.count c.loop-i.i (omega arith) (omega arith) c.args.timed c.loop-i.invariant.3)

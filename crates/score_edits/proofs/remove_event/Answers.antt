@@ -15,22 +15,21 @@ loop-j-init c = (
   c.requires.1,
   search rules,
   search rules,
-  down_none c.args.t1 c.args.count c.args.index (search rules) c.requires.1 c.requires.0,
+  down_none c.args.events c.args.count c.args.index (search rules) c.requires.1 c.requires.0,
 )
 
 pub loop-j-preserved : goal.loop-j-preserved
-loop-j-preserved c =
-    (
-      omega arith,
-      c.loop-j.invariant.1,
-      c.loop-j.invariant.2,
-      c.loop-j.invariant.3,
-      c.loop-j.invariant.4,
-      simp length-set c.loop-j.invariant.5,
-      down_turn c.args.t1 c.args.count c.args.index c.loop-j.invariant.4 (omega arith) (omega arith) c.loop-j.out c.loop-j.j (omega arith)
-          c.loop-j.invariant.6,
-    )
+loop-j-preserved c = (
+  omega arith,
+  c.loop-j.invariant.1,
+  c.loop-j.invariant.2,
+  c.loop-j.invariant.3,
+  c.loop-j.invariant.4,
+  simp length-set c.loop-j.invariant.5,
+  down_turn c.args.events c.args.count c.args.index c.loop-j.invariant.4 (omega arith) (omega arith) c.loop-j.out c.loop-j.j (omega arith)
+      c.loop-j.invariant.6,
+)
 
 pub returns : goal.returns
 returns c =
-    down_done c.args.t1 c.args.count c.args.index c.loop-j.invariant.4 (omega arith) (omega arith) c.loop-j.out c.loop-j.j (omega arith) c.loop-j.invariant.6
+    down_done c.args.events c.args.count c.args.index c.loop-j.invariant.4 (omega arith) (omega arith) c.loop-j.out c.loop-j.j (omega arith) c.loop-j.invariant.6

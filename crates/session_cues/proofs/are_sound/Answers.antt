@@ -8,7 +8,7 @@ use Rattle.session_cues.proofs.are_sound.Goals as goal
 
 pub loop-i-preserved : goal.loop-i-preserved
 loop-i-preserved c =
-    let cues = c.args.t2 in (
+    let cues = c.args.cues in (
       omega arith,
       c.loop-i.invariant.1,
       sound_turn cues c.loop-i.i _ (omega arith) c.args.keys c.loop-i.sound _ _ _ c.is_sound_cue-alone.ensures
@@ -17,4 +17,4 @@ loop-i-preserved c =
 
 pub returns : goal.returns
 returns c =
-    sound_end c.args.t2 c.loop-i.i (omega arith) c.args.keys c.loop-i.sound _ c.loop-i.invariant.2
+    sound_end c.args.cues c.loop-i.i (omega arith) c.args.keys c.loop-i.sound _ c.loop-i.invariant.2

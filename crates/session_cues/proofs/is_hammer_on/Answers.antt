@@ -4,8 +4,8 @@ use Rattle.session_cues.proofs.is_hammer_on.Goals as goal
 
 pub returns-in-Resting : goal.returns-in-Resting
 unfolding hammer_on
-returns-in-Resting c = rw c.enum_told-1.given.1
+returns-in-Resting c = rw c.in-Resting.is
 
 pub returns-in-Flying : goal.returns-in-Flying
 unfolding hammer_on
-returns-in-Flying c = rw c.hammer-1.given.1
+returns-in-Flying c = rw c.in-Flying.is

@@ -6,8 +6,8 @@ use Rattle.session_cues.proofs.nearest.Goals as goal
 
 pub loop-i-preserved : goal.loop-i-preserved
 loop-i-preserved c =
-    (omega arith, c.loop-i.invariant.1, nearest_turn c.args.t1 c.loop-i.i _ (omega arith) c.args.p c.loop-i.best _ _ c.nearer_of-best.ensures c.loop-i.invariant.2)
+    (omega arith, c.loop-i.invariant.1, nearest_turn c.args.cues c.loop-i.i _ (omega arith) c.args.p c.loop-i.best _ _ c.nearer_of-best.ensures c.loop-i.invariant.2)
 
 pub returns : goal.returns
 returns c =
-    (nearest_end c.args.t1 c.loop-i.i (omega arith) c.args.p c.loop-i.best _ c.loop-i.invariant.2, c.loop-i.invariant.1)
+    (nearest_end c.args.cues c.loop-i.i (omega arith) c.args.p c.loop-i.best _ c.loop-i.invariant.2, c.loop-i.invariant.1)

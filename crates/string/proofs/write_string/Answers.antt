@@ -6,7 +6,7 @@ use Rattle.string.proofs.write_string.Goals as goal
 pub write_line-requires-5 : goal.write_line-requires-5
 write_line-requires-5 c =
     let long = c.requires.strung.all in
-    (c.requires.strung.sound.a, omega (arith, c.write_line-4.auto.0, c.write_line-3.auto.0, c.write_line-2.auto.0, c.write_line.auto.0, long), c.requires.indices_at.a)
+    (c.requires.strung.sound.a, omega (arith, c.write_line-4.auto.part, c.write_line-3.auto.part, c.write_line-2.auto.part, c.write_line.auto.part, long), c.requires.indices_at.a)
 
 pub returns : goal.returns
 unfolding nut_write point_writes

@@ -1,18 +1,15 @@
 -- The invariant: `all` says whether the keys before j are there, and the pairs from j on bring the record to what all of them give. Assumes nothing.
 use mathlib.Core.Path.{refl}
-use mathlib.Core.Logic.{⊎_elim}
 use Prim.Native.Nat.{◌-◌}
 use native.Mathlib.Omega.{arith}
 use Rattle.counting.specs.Laws.{tested_none, tested_next, tested_all}
 use Rattle.weights.proofs.Pairs.{setting_turn, setting_end, whole_is}
+use Rattle.weights.proofs.set_weights.Goals.{then-keys-weights, else-keys-weights}
 use Rattle.weights.proofs.set_weights.Goals as goal
 
 pub loop-j-init : goal.loop-j-init
 loop-j-init c =
-    ⊎_elim
-    (λ w. (omega (arith, w.0.taken, w.1), tested_none, record { rest = refl }))
-    (λ w. (omega (arith, w.0.left, w.1), tested_none, record { rest = refl }))
-    c.if-keys-weights.branch
+    elim c.if-keys-weights.branch [ then-keys-weights w ↦ (omega (arith, w.if-keys-weights.true, w.pairs-is), tested_none, record { rest = refl }) | else-keys-weights w ↦ (omega (arith, w.if-keys-weights.false, w.pairs-is), tested_none, record { rest = refl }) ]
 
 pub loop-j-preserved : goal.loop-j-preserved
 loop-j-preserved c =

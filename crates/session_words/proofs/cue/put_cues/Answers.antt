@@ -15,14 +15,13 @@ loop-i-init c = (omega arith, omega arith, c.requires, refl, refl)
 
 pub loop-i-preserved : goal.loop-i-preserved
 loop-i-preserved c =
-    let z = c.args in
-    (
+    let z = c.args in (
       omega arith,
       c.loop-i.invariant.1,
       c.loop-i.invariant.2,
-      c.put_cue.auto.0 ∙ c.loop-i.invariant.3,
+      c.put_cue.auto.words ∙ c.loop-i.invariant.3,
       c.put_cue.ensures
-          ∙ joined_turn FitCue cue_words cue_size cue_length c.loop-i.i z.t2 _ z.words.now c.loop-i.words cues_offset (cues_offset + cue_size * c.loop-i.i) (fit_cues z.t2 _ c.well_formed.1.0)
+          ∙ joined_turn FitCue cue_words cue_size cue_length c.loop-i.i z.cues _ z.words.now c.loop-i.words cues_offset (cues_offset + cue_size * c.loop-i.i) (fit_cues z.cues _ c.well_formed.1.0)
           (omega arith) refl c.loop-i.invariant.4,
     )
 
@@ -32,4 +31,4 @@ shape_of-words c = c.loop-i.invariant.3
 pub returns : goal.returns
 returns c =
     let z = c.args in
-    joined_end FitCue cue_words cue_size cue_length c.loop-i.i z.t2 z.words.now c.loop-i.words cues_offset (omega arith) c.loop-i.invariant.4
+    joined_end FitCue cue_words cue_size cue_length c.loop-i.i z.cues z.words.now c.loop-i.words cues_offset (omega arith) c.loop-i.invariant.4

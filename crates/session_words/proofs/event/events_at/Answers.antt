@@ -15,8 +15,7 @@ loop-i-init c = (omega arith, refl, c.requires, refl)
 
 pub loop-i-preserved : goal.loop-i-preserved
 loop-i-preserved c =
-    let z = c.args in
-    (
+    let z = c.args in (
       omega arith,
       simp length-set c.loop-i.invariant.1,
       c.loop-i.invariant.2,

@@ -5,17 +5,17 @@ use Rattle.session_words.proofs.event.put_event.Goals as goal
 pub returns-in-NoteOn : goal.returns-in-NoteOn
 unfolding event_words
 returns-in-NoteOn c =
-    rw (c.event-1.given.1, ← c.bits_of.ensures) c.put_three.ensures
+    rw (c.in-NoteOn.is, ← c.bits_of.ensures) c.put_three.ensures
 
 pub returns-in-NoteOff : goal.returns-in-NoteOff
 unfolding event_words
-returns-in-NoteOff c = rw c.event-in-NoteOff-1.given.1 c.put_three-in-NoteOff.ensures
+returns-in-NoteOff c = rw c.in-NoteOff.is c.put_three-in-NoteOff.ensures
 
 pub returns-in-Pedal : goal.returns-in-Pedal
 unfolding event_words
 returns-in-Pedal c =
-    rw (c.event-in-Pedal-1.given.1, ← c.bit_of.ensures) c.put_three-in-Pedal.ensures
+    rw (c.in-Pedal.is, ← c.bit_of.ensures) c.put_three-in-Pedal.ensures
 
 pub returns-in-HandDamp : goal.returns-in-HandDamp
 unfolding event_words
-returns-in-HandDamp c = rw c.event-in-HandDamp-1.given.1 c.put_three-in-HandDamp.ensures
+returns-in-HandDamp c = rw c.in-HandDamp.is c.put_three-in-HandDamp.ensures

@@ -15,15 +15,14 @@ loop-i-init c = (omega arith, omega arith, c.requires, refl, refl)
 
 pub loop-i-preserved : goal.loop-i-preserved
 loop-i-preserved c =
-    let z = c.args in
-    (
+    let z = c.args in (
       omega arith,
       c.loop-i.invariant.1,
       c.loop-i.invariant.2,
-      c.put_timed.auto.0 ∙ c.loop-i.invariant.3,
+      c.put_timed.auto.words ∙ c.loop-i.invariant.3,
       c.put_timed.ensures
-          ∙ joined_turn Any timed_words timed_size (λ e h. timed_size_lem e) c.loop-i.i z.t2 _ z.words.now c.loop-i.words events_offset (events_offset + timed_size * c.loop-i.i)
-          (all_any z.t2) (omega arith) refl c.loop-i.invariant.4,
+          ∙ joined_turn Any timed_words timed_size (λ e h. timed_size_lem e) c.loop-i.i z.events _ z.words.now c.loop-i.words events_offset (events_offset + timed_size * c.loop-i.i)
+          (all_any z.events) (omega arith) refl c.loop-i.invariant.4,
     )
 
 pub shape_of-words : goal.shape_of-words
@@ -32,4 +31,4 @@ shape_of-words c = c.loop-i.invariant.3
 pub returns : goal.returns
 returns c =
     let z = c.args in
-    joined_end Any timed_words timed_size (λ e h. timed_size_lem e) c.loop-i.i z.t2 z.words.now c.loop-i.words events_offset (omega arith) c.loop-i.invariant.4
+    joined_end Any timed_words timed_size (λ e h. timed_size_lem e) c.loop-i.i z.events z.words.now c.loop-i.words events_offset (omega arith) c.loop-i.invariant.4

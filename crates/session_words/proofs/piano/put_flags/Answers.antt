@@ -21,7 +21,7 @@ loop-i-preserved c =
       c.loop-i.invariant.1,
       c.loop-i.invariant.2,
       ap length stored ∙ length-set c.loop-i.words (z.at + c.loop-i.i) _ ∙ c.loop-i.invariant.3,
-      stored ∙ joined_turn Any flag_word 1 (λ x h. refl) c.loop-i.i z.t3 false z.words.now c.loop-i.words z.at (z.at + c.loop-i.i) (all_any z.t3) (omega arith) (omega arith) c.loop-i.invariant.4,
+      stored ∙ joined_turn Any flag_word 1 (λ x h. refl) c.loop-i.i z.flags false z.words.now c.loop-i.words z.at (z.at + c.loop-i.i) (all_any z.flags) (omega arith) (omega arith) c.loop-i.invariant.4,
     )
 
 pub shape_of-words : goal.shape_of-words
@@ -30,4 +30,4 @@ shape_of-words c = c.loop-i.invariant.3
 pub returns : goal.returns
 returns c =
     let z = c.args in
-    joined_end Any flag_word 1 (λ x h. refl) c.loop-i.i z.t3 z.words.now c.loop-i.words z.at (omega arith) c.loop-i.invariant.4
+    joined_end Any flag_word 1 (λ x h. refl) c.loop-i.i z.flags z.words.now c.loop-i.words z.at (omega arith) c.loop-i.invariant.4
