@@ -24,6 +24,7 @@ pub fn output_length(n: usize, factor: usize) -> usize
 }
 
 // The refusal's number, 0 for none.
+#[tactic(auto, using(crate::proofs::Cases::refusals))]
 fn refusal(n: usize, taps: usize, factor: usize, room: usize) -> u32
     ensures { result ≡ refusal_of n taps factor room }
 {

@@ -5,6 +5,7 @@ ghost use Rattle.std.specs.Prelude.{◌≡◌};
 ghost use Rattle.float.specs.Float.{min_of, max_of, clamp_of, positive_part, round_away};
 
 // The smaller of two; where one is NaN, the other.
+#[tactic(auto, using(crate::proofs::Ends::ends), unfolding(crate::specs::Float::min_of))]
 pub fn min(a: f64, b: f64) -> f64
     ensures { result ≡ min_of a b }
 {

@@ -6,7 +6,7 @@ use Rattle.std.proofs.Common.{ap, ◌∙◌, subst, add-zero, le_trans, arith, l
 use Rattle.std.specs.Float.{nan}
 use Rattle.cells.specs.Splice.{part, splice, part_length, splice_same}
 use Rattle.cells.specs.Middle.{part_inside, splice_inside}
-use Rattle.cells.specs.Together.{own, Stored, moved_none, moved_turn, moved_after, own_kept, moved_on, moved_all}
+use Rattle.cells.specs.Together.{Stored, moved_none, moved_turn, moved_after, own_kept, moved_on, moved_all}
 use Rattle.cells.specs.Together.{stored_turn, stored_as, stored_all, collect_own, front_next, starts_rise, ends_before, start_next}
 use Rattle.cells.specs.Parts.{total}
 use Rattle.cells.specs.Numbered.{list_from, and_here}

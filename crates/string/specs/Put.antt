@@ -1,7 +1,7 @@
 -- Values stored one after the other in a flat table: they are read back where they were stored, and nothing else changes.
 use Rattle.std.specs.Prelude.{◌≡◌, ◌≢◌, length, get_or, set}
 use Rattle.std.proofs.Math.Path.{refl}
-use Rattle.std.proofs.Common.{ap, ◌∙◌}
+use Rattle.std.proofs.Common.{◌∙◌}
 use mathlib.Core.List.{List, [], ◌∷◌}
 use Prim.Native.Nat.{ℕ, zero, suc, ◌+◌, ◌≤◌, ◌<◌}
 use native.Mathlib.Omega.{arith}

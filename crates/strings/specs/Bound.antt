@@ -41,26 +41,26 @@ module _ (c : Constants) (h : HammerState) (ds : List StringDesign) (v : List Re
   abbrev Under : ForceSum → Float → Type 0
   Under s b = T (nonneg s.force_sum) × T (nonneg b) × T (le s.force_sum b)
 
-  sums_keep : (i : ℕ) (d : StringDesign) (p : List Float) (s : ForceSum) (b : Float) → TopFits c h v i d p → Under s b
-      → Under (point_force_one c h v i d p s) (point_bound_one c h v i d p b)
-  unfolding summed
-  sums_keep i d p s b l u =
-      let r = get_or v i unread in
-      let f = (contact_at c h d r p).force in
-      let t = positive_part (top_at c h d r p) in
-      let k = contact_bound c h d.key (get_or p (at_yS d) nan) (get_or p (at_memory d) nan) r q l in
-      let n = part_nonneg (top_at c h d r p) in (
-        add_nonneg binary64 s.force_sum f u.0 k.0,
-        add_nonneg binary64 b t u.1 n,
-        add_mono binary64 s.force_sum b f t u.0 u.1 k.0 n u.2 k.1,
-      )
-
   pub force_sum_bound : TopsFit c h ds v w
       → T (le +0 (point_force c h ds v w no_force).force_sum) × T (le (point_force c h ds v w no_force).force_sum (point_bound c h ds v w +0))
+  unfolding summed
   force_sum_bound fit =
       let u = fold_related size_of (TopFits c h v) Under (point_force_one c h v) (point_bound_one c h v) sums_keep 0 ds w no_force +0 fit start in
       let f = (point_force c h ds v w no_force).force_sum in
       (zero_least f u.0, u.2)
     where
+      sums_keep : (i : ℕ) (d : StringDesign) (p : List Float) (s : ForceSum) (b : Float) → TopFits c h v i d p → Under s b
+          → Under (point_force_one c h v i d p s) (point_bound_one c h v i d p b)
+      sums_keep i d p s b l u =
+          let r = get_or v i unread in
+          let f = (contact_at c h d r p).force in
+          let t = positive_part (top_at c h d r p) in
+          let k = contact_bound c h d.key (get_or p (at_yS d) nan) (get_or p (at_memory d) nan) r q l in
+          let n = part_nonneg (top_at c h d r p) in (
+            add_nonneg binary64 s.force_sum f u.0 k.0,
+            add_nonneg binary64 b t u.1 n,
+            add_mono binary64 s.force_sum b f t u.0 u.1 k.0 n u.2 k.1,
+          )
+
       start : Under no_force +0
       start = (zero_nonneg, zero_nonneg, zero_least +0 zero_nonneg)

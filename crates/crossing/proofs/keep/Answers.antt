@@ -1,4 +1,5 @@
 -- A refused call returns before it writes; else every word is written. Assumes nothing.
+use native.Mathlib.Omega.{arith}
 use Rattle.crossing.proofs.Returns.{keeps_refused, keeps_written}
 use Rattle.crossing.proofs.keep.Goals as goal
 
@@ -9,4 +10,4 @@ returns-then-report-ne0 c =
 
 pub returns : goal.returns
 returns c =
-    keeps_written c.args.outcome c.args.words.now _ c.report_of-report.ensures c.if-report-ne0.false _ _ c.requires c.put_session.ensures
+    keeps_written c.args.outcome c.args.words.now _ c.report_of-report.ensures (omega arith) _ _ c.requires c.put_session.ensures

@@ -4,16 +4,6 @@ use Rattle.cuts.specs.Cuts.{cuts_of}
 use Rattle.cuts.specs.Laws.{next_fits}
 use Rattle.cuts.proofs.cut_string.Goals as goal
 
-pub overflow_add-na : goal.overflow_add-na
-overflow_add-na c =
-    let end = c.larger.ensures ∙ ap (λ (m : ℕ). max m 1) c.saturating_sub.ensures in
-    record { fits = next_fits c.args.n c.larger.result c.cell_at-na.result _ _ (omega arith) end c.cell_at-na.ensures }
-
-pub overflow_add-na-2 : goal.overflow_add-na-2
-overflow_add-na-2 c =
-    let end = c.larger.ensures ∙ ap (λ (m : ℕ). max m 1) c.saturating_sub.ensures in
-    record { fits = next_fits c.args.n c.larger.result c.cell_at-na.result _ _ (omega arith) end c.cell_at-na.ensures }
-
 pub returns : goal.returns
 unfolding cuts_of
 returns c =
@@ -29,3 +19,13 @@ returns c =
       c.saturating_sub.ensures,
       c.half_of-half.ensures,
     )
+
+pub overflow_add-na : goal.overflow_add-na
+overflow_add-na c =
+    let end = c.larger.ensures ∙ ap (λ (m : ℕ). max m 1) c.saturating_sub.ensures in
+    record { fits = next_fits c.args.n c.larger.result c.cell_at-na.result _ _ (omega arith) end c.cell_at-na.ensures }
+
+pub overflow_add-na-2 : goal.overflow_add-na-2
+overflow_add-na-2 c =
+    let end = c.larger.ensures ∙ ap (λ (m : ℕ). max m 1) c.saturating_sub.ensures in
+    record { fits = next_fits c.args.n c.larger.result c.cell_at-na.result _ _ (omega arith) end c.cell_at-na.ensures }

@@ -21,8 +21,7 @@ slice_bounds-part_energies-end c =
 
 pub part_energies-energies-requires : goal.part_energies-energies-requires
 part_energies-energies-requires c =
-    let from = c.args in
-    (
+    let from = c.args in (
       (fine from.instrument from.session from.work.now _ c.record_refusal-refusal.ensures c.if-refusal-ne0.false).sound,
       omega (arith, part_there from.instrument from.session from.work.now _ c.record_refusal-refusal.ensures c.if-refusal-ne0.false _ c.part_size-w.ensures, c.part_size-w.ensures),
     )

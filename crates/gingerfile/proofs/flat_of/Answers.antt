@@ -12,7 +12,7 @@ loop-k-init c = (omega arith, omega arith, refl, refl, refl, refl)
 
 pub loop-k-preserved : goal.loop-k-preserved
 loop-k-preserved c =
-    let pairs = c.args.t3 in (
+    let pairs = c.args.pairs in (
       omega arith,
       c.loop-k.invariant.1,
       simp length-set c.loop-k.invariant.2,
@@ -24,5 +24,5 @@ loop-k-preserved c =
 pub returns : goal.returns
 unfolding flat_of
 returns c =
-    let pairs = c.args.t3 in
+    let pairs = c.args.pairs in
     rw (map_end energy_of pairs c.loop-k.energies c.loop-k.k (omega arith) (omega arith) c.loop-k.invariant.4, map_end number_of pairs c.loop-k.keys c.loop-k.k (omega arith) (omega arith) c.loop-k.invariant.5)

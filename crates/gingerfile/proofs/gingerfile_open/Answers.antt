@@ -16,4 +16,4 @@ keep-requires c =
 pub returns : goal.returns
 returns c =
     let z = c.args in
-    open_made z.file.now z.words.now c.read-given.ensures c.handed_refusal-number.ensures c.if-number-ne0.false called.«open».ensures c.keep.ensures
+    open_made z.file.now z.words.now c.read-given.ensures c.handed_refusal-number.ensures c.if-number-ne0.false c.open-outcome.ensures c.keep.ensures

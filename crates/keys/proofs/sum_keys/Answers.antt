@@ -1,10 +1,6 @@
 -- `keys::sum_keys` meets its contract. The loop's invariant: what is left to do gives what the whole loop gives (`Folded` of crate cells). Assumes nothing.
 use mathlib.Core.Path.{ap}
-use mathlib.Core.List.{List}
-use Prim.Native.Nat.{ℕ, ◌-◌}
 use native.Mathlib.Omega.{arith}
-use lib.ListN.{get_or, set}
-use lib.Ieee.{Float, nan, binary64, add}
 use Rattle.cells.specs.Numbered.{folded_start, folded_turn, folded_end}
 use Rattle.string.specs.declared.StringDesign.{StringDesign}
 use Rattle.string.specs.Table.{design_at}

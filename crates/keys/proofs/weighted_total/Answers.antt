@@ -1,11 +1,7 @@
 -- `keys::weighted_total` meets its contract. The loop's invariant: what is left to do gives what the whole loop gives (`Folded` of crate cells). Assumes nothing.
 use Rattle.float.specs.Float.{zero as +0}
 use mathlib.Core.Path.{ap}
-use mathlib.Core.List.{List}
-use Prim.Native.Nat.{ℕ, ◌+◌, ◌-◌}
 use native.Mathlib.Omega.{arith}
-use lib.ListN.{get_or}
-use lib.Ieee.{Float, nan, binary64, add, mul}
 use Rattle.cells.specs.Numbered.{folded_start, folded_turn, folded_end}
 use Rattle.keys.specs.declared.KeyConstants.{KeyConstants}
 use Rattle.keys.specs.Keys.{constants_at, weighted_total}

@@ -1,6 +1,6 @@
 -- `keys::weighted_total` meets its contract. The loop's invariant: what is left to do gives what the whole loop gives (`Folded` of crate cells). Assumes nothing.
 use Rattle.float.specs.Float.{zero as +0}
-use Prim.Native.Nat.{◌+◌, ◌-◌, ℕ}
+use Prim.Native.Nat.{◌-◌, ℕ}
 use Rattle.cells.specs.Numbered.{Folded}
 use Rattle.keys.specs.Keys.{constants_at}
 use mathlib.Core.List.{List}

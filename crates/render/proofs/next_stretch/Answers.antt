@@ -19,9 +19,9 @@ returns c =
     let strung = filled_strings at.instrument at.lengths.now at.coefficients.now c.requires.playable.keys c.requires.strings_filled in
     record {
       setup = c.setup_of-setup.ensures;
-      c = rw strung at c.apply_events-acted.ensures;
+      acted = rw strung at c.apply_events-acted.ensures;
       down = c.dampers_down-down.ensures;
-      c = refl;
+      start = refl;
       done = refl;
       pushed = refl;
       more = stop.0;

@@ -1,7 +1,7 @@
 -- `render::silence_part` meets its contract. The loop's invariant: the cells below i are +0. Assumes nothing.
 use Rattle.float.specs.Float.{zero as +0}
 use mathlib.Core.Path.{◌≡◌}
-use Prim.Native.Nat.{◌+◌, ◌-◌, ◌≤◌}
+use Prim.Native.Nat.{◌-◌, ◌≤◌}
 use lib.ListN.{length, take, replicate}
 use Rattle.render.proofs.silence_part.Given as goal
 

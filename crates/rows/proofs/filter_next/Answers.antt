@@ -1,6 +1,6 @@
 -- `rows::filter_next` meets its contract: each case is a number of strings. Assumes nothing.
 use mathlib.Core.Path.{refl}
-use Prim.Native.Nat.{◌+◌, ◌-◌, ◌≤◌}
+use Prim.Native.Nat.{◌+◌, ◌≤◌}
 use native.Mathlib.Omega.{arith}
 use Rattle.rows.specs.Laws.{next_few}
 use Rattle.rows.proofs.filter_next.Goals as goal

@@ -1,6 +1,5 @@
 -- `rows::filter_strings` meets its contract. The loop's invariant: the strings below i are filtered, and string i starts at `at`. Assumes nothing.
 use mathlib.Core.Path.{◌≡◌}
-use Prim.Native.Nat.{◌-◌}
 use native.Mathlib.Omega.{arith}
 use Rattle.string.specs.Table.{design_at}
 use Rattle.rows.specs.Laws.{below_none, below_turn, below_all}

@@ -1,6 +1,5 @@
 -- `rows::filter_together` meets its contract: each string starts, passes the common stages, and is finished. Assumes nothing.
 use mathlib.Core.Path.{◌∙◌}
-use Prim.Native.Nat.{◌-◌}
 use native.Mathlib.Omega.{arith}
 use Rattle.string.specs.Table.{design_at}
 use Rattle.rows.specs.Laws.{few_still, filtered_is}

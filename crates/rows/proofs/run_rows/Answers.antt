@@ -1,6 +1,5 @@
 -- `rows::run_rows` meets its contract. The loop's invariant: the values have passed the first s stages of each row. Assumes nothing.
 use mathlib.Core.Path.{◌≡◌, refl, ◌∙◌}
-use Prim.Native.Nat.{◌-◌}
 use native.Mathlib.Omega.{arith}
 use Rattle.string.specs.Table.{design_at}
 use Rattle.rows.specs.Laws.{few_still, rows_none, rows_turn}

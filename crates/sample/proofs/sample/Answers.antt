@@ -33,7 +33,7 @@ pub bridge-out-requires : goal.bridge-out-requires
 bridge-out-requires c =
     let kept = c.filter_strings.auto in
     record {
-      ready = ready_kept c.requires.ready (c.strike_strings-f.auto.part ∙ kept.part) kept.scratch;
+      ready = ready_kept c.requires.ready (c.strike_strings-f.auto.part ∙ kept.part) kept.v_in;
       indexed = c.requires.indexed;
     }
 

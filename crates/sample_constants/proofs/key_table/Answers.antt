@@ -1,5 +1,5 @@
 -- `sample_constants::key_table` meets its contract. The loop's invariant: the keys below k are stored. Assumes nothing.
-use Rattle.std.proofs.Common.{◌≡◌, ◌-◌, refl, ◌∙◌, arith}
+use Rattle.std.proofs.Common.{◌≡◌, refl, ◌∙◌, arith}
 use Rattle.keys.specs.Keys.{constants_at}
 use Rattle.cells.specs.Numbered.{and_here}
 use Rattle.sample_constants.specs.Model.{key_in}

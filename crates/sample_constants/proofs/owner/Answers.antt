@@ -1,6 +1,5 @@
 -- `sample_constants::owner` meets its contract. The loop's invariant: the search from key k on gives what the whole search gives. Assumes nothing.
-use Rattle.std.proofs.Common.{◌-◌, get_or, arith}
-use Rattle.instrument.specs.Valid as valid
+use Rattle.std.proofs.Common.{get_or, arith}
 use Rattle.sample_constants.proofs.KeySearch.{passing_start, passing_found, passing_turn, passing_end}
 use Rattle.sample_constants.proofs.owner.Goals as goal
 

@@ -1,6 +1,5 @@
 -- `sample_constants::owner` meets its contract. The loop's invariant: the search from key k on gives what the whole search gives. Assumes nothing.
 use Rattle.std.proofs.Common.{◌-◌, get_or}
-use Rattle.instrument.specs.Valid as valid
 use Rattle.sample_constants.proofs.KeySearch.{Passing}
 use Rattle.sample_constants.proofs.owner.Given as goal
 

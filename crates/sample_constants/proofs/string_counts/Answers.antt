@@ -1,5 +1,5 @@
 -- `sample_constants::string_counts` meets its contract. The loop's invariant: the counts below k are stored. Assumes nothing.
-use Rattle.std.proofs.Common.{ℕ, ◌-◌, ◌<◌, length, get_or, set, sym, refl, ap, ◌∙◌, arith, length-set, get_or-set_other, get_or-set_same}
+use Rattle.std.proofs.Common.{ℕ, ◌<◌, length, get_or, set, sym, refl, ap, ◌∙◌, arith, length-set, get_or-set_other, get_or-set_same}
 use Rattle.instrument.specs.Valid as valid
 use Rattle.cells.specs.Numbered.{one_more}
 use Rattle.sample_constants.proofs.string_counts.Goals as goal

@@ -1,5 +1,5 @@
 -- `sample_constants::string_tables` meets its contract. The loop's invariant: the strings below i are stored. Assumes nothing.
-use Rattle.std.proofs.Common.{◌≡◌, ℕ, ◌-◌, get_or, refl, ap, ◌∙◌, arith}
+use Rattle.std.proofs.Common.{◌≡◌, ℕ, get_or, refl, ap, ◌∙◌, arith}
 use Rattle.instrument.specs.Valid as valid
 use Rattle.string.specs.Table.{design_at}
 use Rattle.sample_constants.specs.Model.{owner_in, string_of, string_in}

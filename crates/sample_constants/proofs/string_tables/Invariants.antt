@@ -1,6 +1,5 @@
 -- `sample_constants::string_tables` meets its contract. The loop's invariant: the strings below i are stored. Assumes nothing.
 use Rattle.std.proofs.Common.{◌≡◌, ℕ, ◌-◌, ◌<◌, ◌≤◌, length}
-use Rattle.instrument.specs.Valid as valid
 use Rattle.string.specs.Table.{design_at}
 use Rattle.sample_constants.specs.Model.{string_in}
 use Rattle.sample_constants.proofs.string_tables.Given as goal

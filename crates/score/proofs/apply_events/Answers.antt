@@ -1,11 +1,10 @@
 -- `score::apply_events` meets its contract. The loop's invariant: the events from i on that act at t give what all of them give. Assumes nothing.
-use mathlib.Core.Path.{◌≡◌, refl, sym, ap, ◌∙◌}
-use Prim.Native.Nat.{◌-◌, ◌<◌}
+use mathlib.Core.Path.{◌≡◌, refl, ap, ◌∙◌}
+use Prim.Native.Nat.{◌<◌}
 use native.Mathlib.Omega.{arith}
 use borrow.Author.Rules.{rules}
-use lib.ListN.{length, get_or, length-take, length-map}
+use lib.ListN.{length, get_or, length-take}
 use lib.Seq.{get_or-take}
-use Rattle.score.specs.contracts.TimedEvent as TimedEventType
 use Rattle.string.specs.Table.{table_strings}
 use Rattle.score.specs.Events.{State}
 use Rattle.score.specs.Score.{events_of, no_event}

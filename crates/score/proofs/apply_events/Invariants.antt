@@ -2,7 +2,6 @@
 use mathlib.Core.Path.{◌≡◌}
 use Prim.Native.Nat.{◌-◌, ◌≤◌}
 use lib.ListN.{length}
-use Rattle.score.specs.contracts.TimedEvent as TimedEventType
 use Rattle.string.specs.Table.{table_strings}
 use Rattle.score.specs.Score.{events_of}
 use Rattle.score.proofs.Loops.{Acted}

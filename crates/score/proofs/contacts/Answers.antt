@@ -1,7 +1,6 @@
 -- `score::contacts` meets its contract. The loop's invariant: the counts of the keys below k are added up as far as the limit lets them be; n keys have all the counts there are.
 -- Assumes nothing.
 use mathlib.Core.Path.{◌≡◌, refl, sym, ap, ◌∙◌}
-use Prim.Native.Nat.{◌-◌}
 use native.Mathlib.Omega.{arith}
 use Rattle.counting.specs.Sums.{sum_of, sum_beyond}
 use Rattle.score.proofs.Loops.{added_none, added_more, added_over, added_all}

@@ -1,6 +1,5 @@
 -- `score::dampers_down` meets its contract. The loop's invariant: the dampers below k are told. Assumes nothing.
 use mathlib.Core.Path.{refl}
-use Prim.Native.Nat.{◌-◌}
 use native.Mathlib.Omega.{arith}
 use Rattle.score.proofs.Loops.{told_turn}
 use Rattle.score.proofs.dampers_down.Goals as goal

@@ -1,5 +1,4 @@
 -- `score::next_event` meets its contract. The loop's invariant: every event below i that counts is at next or later. Assumes nothing.
-use Prim.Native.Nat.{◌-◌}
 use native.Mathlib.Omega.{arith}
 use Rattle.score.proofs.Loops.{later_turn, later_end}
 use Rattle.score.proofs.next_event.Goals as goal

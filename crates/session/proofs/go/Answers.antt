@@ -29,13 +29,13 @@ pub slice_bounds-render-end : goal.slice_bounds-render-end
 slice_bounds-render-end c =
     let from = c.args in
     let p = go_tested from.instrument from.session from.work.now from.scratch.now from.p _ c.go_refusal-refusal.ensures c.if-refusal-ne0.false in
-    omega (arith, p.records.room, c.part_size-w.ensures, c.restore-piano.auto.1.1.1.0)
+    omega (arith, p.records.room, c.part_size-w.ensures, c.restore-piano.auto.work)
 
 pub slice_bounds-render-end-2 : goal.slice_bounds-render-end-2
 slice_bounds-render-end-2 c =
     let from = c.args in
     let p = go_tested from.instrument from.session from.work.now from.scratch.now from.p _ c.go_refusal-refusal.ensures c.if-refusal-ne0.false in
-    sym (length-take-le _ _ (omega (arith, p.records.room, c.part_size-w.ensures, c.restore-piano.auto.1.1.1.0)))
+    sym (length-take-le _ _ (omega (arith, p.records.room, c.part_size-w.ensures, c.restore-piano.auto.work)))
 
 pub overflow_sub-p : goal.overflow_sub-p
 overflow_sub-p c = omega (arith, c.start_of-start.ensures.1)
@@ -45,7 +45,7 @@ render-replayed-requires c =
     let from = c.args in
     let p = go_tested from.instrument from.session from.work.now from.scratch.now from.p _ c.go_refusal-refusal.ensures c.if-refusal-ne0.false in
     let q = go_ready from.instrument from.session from.work.now from.scratch.now from.p p c.start_of-start.ensures.2 _ c.start_of-start.ensures.0
-    c.start_of-start.ensures.1 _ _ c.restore-piano.ensures c.restore-piano.auto.1.1.1.0 _ c.part_size-w.ensures in
+    c.start_of-start.ensures.1 _ _ c.restore-piano.ensures c.restore-piano.auto.work _ c.part_size-w.ensures in
     record {
       renderable = q.0;
       count_bound = q.1;
@@ -60,7 +60,7 @@ returns c =
     record {
       go_meets = meets_accepted _ c.go_refusal-refusal.ensures c.if-refusal-ne0.false
           (goes from.instrument from.session from.work.now from.scratch.now from.p p c.start_of-start.ensures.2 _ c.start_of-start.ensures.0
-          c.start_of-start.ensures.1 _ _ c.restore-piano.ensures c.restore-piano.auto.1.1.1.0 _ c.part_size-w.ensures
+          c.start_of-start.ensures.1 _ _ c.restore-piano.ensures c.restore-piano.auto.work _ c.part_size-w.ensures
           _ _ _ c.render-replayed.ensures.state c.render-replayed.ensures.counted);
       scratch_stays = (λ refused. absurd (refused (sym c.go_refusal-refusal.ensures ∙ c.if-refusal-ne0.false)));
     }

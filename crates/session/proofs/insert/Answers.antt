@@ -28,4 +28,4 @@ edit-requires c =
 
 pub returns : goal.returns
 returns c =
-    meets_accepted _ c.insert_refusal-refusal.ensures c.if-refusal-ne0.false (rw c.place_event-events.ensures c c.edit.ensures)
+    meets_accepted _ c.insert_refusal-refusal.ensures c.if-refusal-ne0.false (rw c.place_event-events.ensures at c.edit.ensures)

@@ -1,7 +1,6 @@
 -- `strings::bridge_strings` meets its contract. The loop's invariant: what is left to do gives what the whole walk gives (`WalkAt` of specs/Walk). Assumes nothing.
 use mathlib.Core.Path.{refl}
 use mathlib.Core.List.{[]}
-use Prim.Native.Nat.{◌-◌}
 use native.Mathlib.Omega.{arith}
 use Rattle.strings.specs.Strings.{bridge_force_one}
 use Rattle.strings.specs.Walk.{at_start, at_fits, at_strung, at_turn, at_end}

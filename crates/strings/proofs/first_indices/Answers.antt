@@ -1,6 +1,5 @@
 -- `strings::first_indices` meets its contract. The loop's invariant: the strings below i have their indices. Assumes nothing.
 use mathlib.Core.Path.{◌≡◌, refl}
-use Prim.Native.Nat.{◌-◌}
 use native.Mathlib.Omega.{arith}
 use Rattle.string.specs.Table.{put_indices}
 use Rattle.strings.specs.Laws.{sound_fits, put_turn}

@@ -1,6 +1,6 @@
 -- `strings::next_indices` meets its contract. The loop's invariant: strings below i have their indices at t + 1, the others still at t. Assumes nothing.
 use mathlib.Core.Path.{◌≡◌}
-use Prim.Native.Nat.{◌+◌, ◌-◌}
+use Prim.Native.Nat.{◌+◌}
 use native.Mathlib.Omega.{arith}
 use Rattle.string.specs.Table.{put_indices}
 use Rattle.strings.specs.Laws.{sound_fits, put_turn, put_rest}

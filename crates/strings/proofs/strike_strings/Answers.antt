@@ -1,6 +1,5 @@
 -- `strings::strike_strings` meets its contract. The loop's invariant: what is left to do gives what the whole walk gives (`WalkAt` of specs/Walk). Assumes nothing.
 use mathlib.Core.Path.{ap, ◌∙◌}
-use Prim.Native.Nat.{◌-◌}
 use native.Mathlib.Omega.{arith}
 use lib.Ieee.{Float}
 use Rattle.points.specs.Points.{summed}
