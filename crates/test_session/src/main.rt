@@ -39,7 +39,7 @@ struct Replay {
 // ---- the calls
 
 // A new list: its instrument's file, read and opened.
-fn open(file: &[u8], work: &mut [f64], trace: &[f64], text: &mut [u8]) -> Replay {
+fn open(file: &[u8], work: &mut [f64], text: &mut [u8]) -> Replay {
     let answer = instrument_file::read(file);
     let instrument = answer.instrument;
     let turn = console::open(instrument, work);
@@ -61,15 +61,9 @@ fn open(file: &[u8], work: &mut [f64], trace: &[f64], text: &mut [u8]) -> Replay
 }
 
 // The same of a file's digits.
-fn open_digits(
-    digits: &[u8],
-    file: &mut [u8],
-    work: &mut [f64],
-    trace: &[f64],
-    text: &mut [u8],
-) -> Replay {
+fn open_digits(digits: &[u8], file: &mut [u8], work: &mut [f64], text: &mut [u8]) -> Replay {
     let n = reading::read_bytes(digits, file);
-    open(part(file, 0, n), work, trace, text)
+    open(part(file, 0, n), work, text)
 }
 
 fn call(
@@ -109,7 +103,7 @@ fn replayed(
 ) -> Replay {
     let record = reading::record_of(line);
     match record {
-        Record::Instrument => open_digits(reading::stored_in(line), file, work, trace, text),
+        Record::Instrument => open_digits(reading::stored_in(line), file, work, text),
         Record::Line => call(r, reading::stored_in(line), work, out, trace, text),
         _ => r,
     }
@@ -306,7 +300,7 @@ fn main(rt: HostRuntime) -> io::Result<()> {
     let mut input = [0u8; 65536];
     let mut text = [0u8; 1024];
     let mut file = [0u8; 4096];
-    let replay = open(b"", &mut work, &trace, &mut text);
+    let replay = open(b"", &mut work, &mut text);
     let start = State {
         replay,
         tally: nothing(),
