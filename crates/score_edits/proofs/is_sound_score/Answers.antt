@@ -1,5 +1,4 @@
 -- After i events: what has passed, together with what the rest will say, is what the whole score says (`sound_turn`, `sound_done` in Walk.antt).
-use Prim.Native.Nat.{◌-◌}
 use native.Mathlib.Omega.{arith}
 use Rattle.score_edits.proofs.Walk.{sound_turn, sound_done}
 use Rattle.score_edits.proofs.is_sound_score.Goals as goal

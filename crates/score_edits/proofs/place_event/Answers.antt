@@ -1,6 +1,5 @@
 -- After j turns: j events have moved up by one, behind the new one; at the end the array is the score with the event placed (Moves.antt).
 use mathlib.Core.Path.{refl}
-use Prim.Native.Nat.{◌-◌}
 use native.Mathlib.Omega.{arith}
 use lib.ListN.{length-set}
 use Rattle.score_edits.proofs.Moves.{up_none, up_turn, up_done}

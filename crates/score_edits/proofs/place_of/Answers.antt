@@ -1,6 +1,5 @@
 -- After i events: the place found in the rest, and the i events passed, are the place (Walk.antt).
 use mathlib.Core.Path.{sym, ◌∙◌}
-use Prim.Native.Nat.{◌-◌}
 use native.Mathlib.Omega.{arith}
 use Rattle.score_edits.proofs.Walk.{place_turn, place_here, place_end}
 use Rattle.score_edits.proofs.place_of.Goals as goal

@@ -1,6 +1,5 @@
 -- After j turns: j events have moved down by one; at the end the array is the score without the event (Moves.antt).
 use mathlib.Core.Path.{refl}
-use Prim.Native.Nat.{◌-◌}
 use native.Mathlib.Omega.{arith}
 use lib.ListN.{length-set}
 use Rattle.score_edits.proofs.Moves.{down_none, down_turn, down_done}

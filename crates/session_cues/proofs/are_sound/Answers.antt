@@ -1,6 +1,6 @@
 -- After i slots: the tests so far, and soundness of the slots left, are soundness of all.
 use mathlib.Core.Path.{sym, ◌∙◌, ap}
-use Prim.Native.Nat.{◌+◌, ◌-◌}
+use Prim.Native.Nat.{◌+◌}
 use native.Mathlib.Omega.{arith}
 use lib.Dec.{ltb}
 use Rattle.session_cues.proofs.Slots.{kept_from, sound_turn, sound_end}

@@ -1,5 +1,4 @@
 -- After i slots: the count so far, at most i, and the number among the slots left make the number of all.
-use Prim.Native.Nat.{◌-◌}
 use native.Mathlib.Omega.{arith}
 use Rattle.session_cues.proofs.Slots.{lost_turn, lost_end}
 use Rattle.session_cues.proofs.count_above.Goals as goal

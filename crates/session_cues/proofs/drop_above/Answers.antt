@@ -1,5 +1,4 @@
 -- After i slots the first i are those of the mapped list.
-use Prim.Native.Nat.{◌-◌}
 use native.Mathlib.Omega.{arith}
 use lib.ListN.{length-set}
 use Rattle.session_cues.specs.Cues.{drop_above}

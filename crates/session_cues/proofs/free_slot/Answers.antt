@@ -1,5 +1,4 @@
 -- Every slot passed keeps a cue: i and the first free one among the slots left give the first free of all.
-use Prim.Native.Nat.{◌-◌}
 use native.Mathlib.Omega.{arith}
 use borrow.Author.Tests.{not-true, not-false}
 use Rattle.session_cues.proofs.Slots.{no_cue, free_turn, free_here, free_end}

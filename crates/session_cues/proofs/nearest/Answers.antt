@@ -1,5 +1,4 @@
 -- After i slots: the greater of the best so far and the nearest among the slots left is the nearest of all.
-use Prim.Native.Nat.{◌-◌}
 use native.Mathlib.Omega.{arith}
 use Rattle.session_cues.proofs.Slots.{nearest_turn, nearest_end}
 use Rattle.session_cues.proofs.nearest.Goals as goal

@@ -1,6 +1,5 @@
 -- No slot passed keeps x: i and the place of x among the slots left give the place from `first` on.
 use mathlib.Core.Path.{sym, ◌∙◌}
-use Prim.Native.Nat.{◌-◌}
 use native.Mathlib.Omega.{arith}
 use Rattle.session_cues.proofs.Slots.{slot_turn, slot_here, slot_end}
 use Rattle.session_cues.proofs.slot_at.Goals as goal
