@@ -470,11 +470,18 @@ module _ (i : Instrument) (s : Session) (work : List Float) (s' : Session) (work
 
 -- ---- the list as a whole
 
+-- one call more ahead of such lists
+same_next : (i : Instrument) (r r' : Outcome) (left left' out trace out' trace' : List Float) {s₁ s₂ : Session} {work₁ work₂ : List Float} {rs rs' : List Reply}
+    → SameOutcome i r left out trace r' left' out' trace' → (Alike i r.session left r'.session left' → (rs ≡ rs') × Alike i s₁ work₁ s₂ work₂)
+    → (reply_of r.answer out trace ∷ rs ≡ reply_of r'.answer out' trace' ∷ rs') × Alike i s₁ work₁ s₂ work₂
+same_next i r r' left left' out trace out' trace' t rest =
+    let u = rest t.after in
+    (cc (t.reply, u.0), u.1)
+
 -- the same calls from sessions and memories that agree: the same replies, and they agree afterwards
 pub same_runs : (i : Instrument) {s s' s₁ s₂ : Session} {work work' work₁ work₂ : List Float} {cs : List Call} {rs rs' : List Reply}
     → Runs i s work cs rs s₁ work₁ → Runs i s' work' cs rs' s₂ work₂ → Alike i s work s' work' → (rs ≡ rs') × Alike i s₁ work₁ s₂ work₂
 same_runs i Runs.done Runs.done a = (refl, a)
 same_runs i (Runs.next {s = s} {work = work} c out trace r left out₁ trace₁ h rest) (Runs.next {s = s'} {work = work'} _ out₀ trace₀ r' left' out₂ trace₂ h' rest') a =
-    let t = same_call i s work s' work' a c out trace out₀ trace₀ r r' left left' out₁ trace₁ out₂ trace₂ h h' in
-    let u = same_runs i rest rest' t.after in
-    (cc (t.reply, u.0), u.1)
+    same_next i r r' left left' out₁ trace₁ out₂ trace₂ (same_call i s work s' work' a c out trace out₀ trace₀ r r' left left' out₁ trace₁ out₂ trace₂ h h')
+    (λ after. same_runs i rest rest' after)

@@ -12,7 +12,7 @@ returns-then-number-ne0 c =
     c.refused.ensures in
     record {
       adjust_meets = m;
-      gives_back = gives_back z.file.now z.keys.now z.weights.now (λ p. (c.shared_slice_known-1.given p).fits) m;
+      gives_back = gives_back z.file.now z.keys.now z.weights.now (λ p. (c.type_inv.file p).fits) m;
     }
 
 pub returns : goal.returns
@@ -23,5 +23,5 @@ returns c =
     c.write-answer.ensures refl in
     record {
       adjust_meets = m;
-      gives_back = gives_back z.file.now z.keys.now z.weights.now (λ p. (c.shared_slice_known-1.given p).fits) m;
+      gives_back = gives_back z.file.now z.keys.now z.weights.now (λ p. (c.type_inv.file p).fits) m;
     }
