@@ -39,7 +39,7 @@ struct Replay {
 // ---- the calls
 
 // A new list: its instrument's file, read and opened.
-fn open(file: &[u8], work: &mut [f64], text: &mut [u8]) -> Replay {
+fn open(file: &[u8], work: &mut [f64; 662000], text: &mut [u8]) -> Replay {
     let answer = instrument_file::read(file);
     let instrument = answer.instrument;
     let turn = console::open(instrument, work);
@@ -61,7 +61,12 @@ fn open(file: &[u8], work: &mut [f64], text: &mut [u8]) -> Replay {
 }
 
 // The same of a file's digits.
-fn open_digits(digits: &[u8], file: &mut [u8], work: &mut [f64], text: &mut [u8]) -> Replay {
+fn open_digits(
+    digits: &[u8],
+    file: &mut [u8],
+    work: &mut [f64; 662000],
+    text: &mut [u8],
+) -> Replay {
     let n = reading::read_bytes(digits, file);
     open(part(file, 0, n), work, text)
 }
