@@ -203,10 +203,14 @@ cue_lives p score q x h = in_up_to q x p.cues h
 
 -- ---- an accepted go: "target minus start, never more than from 0, from the position before the go or from any kept cue, of those not above the target"
 
-pub go_least : (t : ℕ) (cues : List ℕ) (p x : ℕ) → x ≤ p → (x ≡ 0) ⊎ (is_in x (t ∷ cues) ≡ true) → p - start_of t cues p ≤ p - x
-go_least t cues p x h m =
+-- of the greatest position that is not above p
+greatest_least : (t : ℕ) (cues : List ℕ) (p x : ℕ) → x ≤ p → (x ≡ 0) ⊎ (is_in x (t ∷ cues) ≡ true) → p - greatest (up_to p (t ∷ cues)) ≤ p - x
+greatest_least t cues p x h m =
     ⊎_elim (λ (z : x ≡ 0). omega arith)
     (λ (z : is_in x (t ∷ cues) ≡ true). omega (arith, greatest_bound (up_to p (t ∷ cues)) x (in_up_to p x (t ∷ cues) h ∙ z), greatest_up_to p (t ∷ cues))) m
+
+pub go_least : (t : ℕ) (cues : List ℕ) (p x : ℕ) → x ≤ p → (x ≡ 0) ⊎ (is_in x (t ∷ cues) ≡ true) → p - start_of t cues p ≤ p - x
+go_least t cues p x h m = greatest_least t cues p x h m
 
 -- what the number n of a go to p says of the machine before it
 pub record Replayed (m : Machine) (p n : ℕ) : Type 0 where
@@ -218,7 +222,7 @@ unfolding does_to
 go_replays i m scratch p n = by_refusal (go_refusal i scratch p (start_of m.t m.cues p))
   where
     replayed : p - start_of m.t m.cues p ≡ n → Replayed m p n
-    replayed e = record { number = sym e; least = λ x h k. omega (arith, e, go_least m.t m.cues p x h k) }
+    replayed e = record { number = sym e; least = λ x h k. omega (arith, e, greatest_least m.t m.cues p x h k) }
 
     by_refusal : (a : ℕ) → (unless a m (record { score = m.score; t = p; cues = m.cues }, Reply.went (p - start_of m.t m.cues p))).1 ≡ Reply.went n → Replayed m p n
     by_refusal zero e = replayed cc

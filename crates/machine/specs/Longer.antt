@@ -23,14 +23,15 @@ reply_past_end : (p : Machine) (done : Machine × Reply) (n : ℕ) → n ≡ 11 
 reply_past_end p done zero e = absurd (omega arith)
 reply_past_end p done (suc n) e = ap Reply.refused e
 
-module _ (a b : ℕ) (longer : a ≤ b) where
+-- of two ends, the second not below the first: whatever the first allows, the second does
+module _ (a b : ℕ) (allows : (q : ℕ) → q ≤ a → q ≤ b) where
   -- the test alone, ahead of others, and behind others
   end_same : (q : ℕ) → (end_test a q ≡ 11 → ⊥) → end_test a q ≡ end_test b q
   end_same q h = by_test (ltb a q) refl h
     where
       by_test : (t : Bool) → ltb a q ≡ t → (refuse_if t 11 ≡ 11 → ⊥) → refuse_if t 11 ≡ end_test b q
       by_test true e h = absurd (h refl)
-      by_test false e h = rw (le-ltb b q (omega (arith, ltb-false a q e)))
+      by_test false e h = rw (le-ltb b q (allows q (ltb-false a q e)))
 
   end_first : (q y : ℕ) → (or_else (end_test a q) y ≡ 11 → ⊥) → or_else (end_test a q) y ≡ or_else (end_test b q) y
   end_first q y h = ap (λ x. or_else x y) (end_same q (λ e. h (ap (λ x. or_else x y) e)))
@@ -57,11 +58,16 @@ module _ (a b : ℕ) (longer : a ≤ b) where
       rw same
   does_longer i p (Call.remove index) h = refl
 
+  -- a list of calls
+  same_where_allowed : (i : Instrument) (p : Machine) (cs : List Call) → NonePastEnd (replies_to a i p cs) → (replies_to a i p cs ≡ replies_to b i p cs) × (final_to a i p cs ≡ final_to b i p cs)
+  unfolding replies_to final_to NonePastEnd
+  same_where_allowed i p [] h = (refl, refl)
+  same_where_allowed i p (c ∷ cs) h =
+      let e = does_longer i p c h.0 in
+      let rest = same_where_allowed i (does_to a i p c).0 cs h.1 in
+      (rw (← e) (ap (λ l. (does_to a i p c).1 ∷ l) rest.0), rw (← e) rest.1)
+
+module _ (a b : ℕ) (longer : a ≤ b) where
   -- a list of calls of which none is refused as 11 under the end a: the same replies, and the same machine after it
   pub longer_same : (i : Instrument) (p : Machine) (cs : List Call) → NonePastEnd (replies_to a i p cs) → (replies_to a i p cs ≡ replies_to b i p cs) × (final_to a i p cs ≡ final_to b i p cs)
-  unfolding replies_to final_to NonePastEnd
-  longer_same i p [] h = (refl, refl)
-  longer_same i p (c ∷ cs) h =
-      let e = does_longer i p c h.0 in
-      let rest = longer_same i (does_to a i p c).0 cs h.1 in
-      (rw (← e) (ap (λ l. (does_to a i p c).1 ∷ l) rest.0), rw (← e) rest.1)
+  longer_same = same_where_allowed a b (λ q h. omega arith)
