@@ -1,6 +1,6 @@
 -- Every session is read back from its words, and they are told to be a session's. `FitSession` says what every value of the record's type
 -- has and a definition alone cannot see. Assumes nothing.
-use Rattle.std.specs.Prelude.{◌≡◌, refl, Bool, false, cond, ℕ, suc, ◌+◌, ◌*◌, ◌%◌, ◌≤◌, ◌<◌, eqb, leb, Float, length, get_or, drop}
+use Rattle.std.specs.Prelude.{◌≡◌, refl, Bool, false, cond, ℕ, suc, ◌*◌, ◌%◌, ◌≤◌, ◌<◌, eqb, leb, Float, length, get_or, drop}
 use Rattle.std.proofs.Math.Path.{sym, ap}
 use Rattle.std.proofs.Common.{◌∙◌, drop-drop, eq-eqb, le-leb, leb-true}
 use Rattle.std.proofs.Math.Bool.{true}

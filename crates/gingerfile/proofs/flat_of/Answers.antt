@@ -1,6 +1,5 @@
 -- The invariant: the first k energies and the first k numbers are copied. Assumes nothing.
 use mathlib.Core.Path.{refl}
-use Prim.Native.Nat.{◌-◌}
 use native.Mathlib.Omega.{arith}
 use lib.ListN.{length-set}
 use Rattle.gingerfile.specs.Energies.{energy_of, number_of, flat_of}

@@ -1,6 +1,5 @@
 -- The invariant: whether the first i are cues. Assumes nothing.
 use mathlib.Core.Path.{◌≡◌, refl, ap, ◌∙◌}
-use Prim.Native.Nat.{◌-◌}
 use native.Mathlib.Omega.{arith}
 use lib.ListN.{drop}
 use Rattle.counting.specs.Every.{every, every_after}

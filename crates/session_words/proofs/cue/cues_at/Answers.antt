@@ -1,6 +1,5 @@
 -- The invariant: the first i are read. Assumes nothing.
 use mathlib.Core.Path.{◌≡◌, refl, ap, ◌∙◌}
-use Prim.Native.Nat.{◌-◌}
 use native.Mathlib.Omega.{arith}
 use lib.ListN.{drop, length-set}
 use Rattle.session_words.specs.Items.{items_of, items_turn, items_end}

@@ -1,6 +1,6 @@
 -- The invariant: whether the first i are events; n, how many count, is 64 at most. Assumes nothing.
 use mathlib.Core.Path.{◌≡◌, refl, ap, ◌∙◌}
-use Prim.Native.Nat.{ℕ, ◌-◌}
+use Prim.Native.Nat.{ℕ}
 use native.Mathlib.Omega.{arith}
 use lib.ListN.{drop}
 use Rattle.counting.specs.Every.{every, every_after}

@@ -1,7 +1,7 @@
 -- The invariant: the first i are written. Assumes nothing.
 use mathlib.Core.Path.{refl, ap, ◌∙◌}
 use lib.Ieee.{nan}
-use Prim.Native.Nat.{ℕ, ◌+◌, ◌-◌}
+use Prim.Native.Nat.{ℕ, ◌+◌}
 use native.Mathlib.Omega.{arith}
 use lib.ListN.{length, set, length-set}
 use Rattle.session_words.specs.Items.{joined, joined_turn, joined_end}
