@@ -27,17 +27,6 @@ use Rattle.session_theorem.specs.Memory.{front_now, front_length}
 use Rattle.session_theorem.specs.Stands.{Stands}
 use Rattle.session_theorem.specs.Steps.{call_step}
 
--- ---- the list as a whole
-
-runs_follow : (i : Instrument) {s s'' : Session} {work work'' : List Float} {cs : List Call} {rs : List Reply} → Runs i s work cs rs s'' work'' → (p : Machine) → Stands i s work p
-    → (rs ≡ replies i p cs) × Stands i s'' work'' (final i p cs)
-unfolding replies_to final_to
-runs_follow i Runs.done p g = (refl, g)
-runs_follow i (Runs.next {s = s} {work = work} c out trace r work' out' trace' h rest) p g =
-    let t = call_step i s work p g c out trace r work' out' trace' h in
-    let u = runs_follow i rest _ t.0 in
-    (cc (t.1, u.0), u.1)
-
 -- ---- a session just opened
 
 fresh_keeps : (p : Piano) → kept_of (fresh_session p).cues ≡ []
@@ -101,8 +90,9 @@ stands_counts i s work p g =
 -- replays no more than it must, and the events that act on a sample are those of document 01's rule, in the order of document 02's W1.
 pub demand_3 : (i : Instrument) (work work' : List Float) (r : Outcome) → OpenMeets i work r work' → r.answer ≡ Opened
     → {cs : List Call} {rs : List Reply} {s : Session} {work'' : List Float} → Runs i r.session work' cs rs s work'' → Claim i cs rs s work''
+unfolding replies_to final_to
 demand_3 i work work' r h e {cs} {rs} t =
-    let u = runs_follow i t opened (opened_stands i work work' r h e) in
+    let u = follows t opened (opened_stands i work work' r h e) in
     let reply : (k : ℕ) → k < length cs → get_or rs k Reply.cued ≡ (does i (standing i cs k) (get_or cs k Call.cue)).1 =
     λ k l. ap (λ x. get_or x k Reply.cued) u.0 ∙ replies_at i opened cs k l in
     record {
@@ -114,3 +104,12 @@ demand_3 i work work' r h e {cs} {rs} t =
       walked = λ k t. sound_walk (standing i cs k).score t (sound_final i opened (take k cs) sound_opened).score;
       ranked = λ k t. sound_ranks (standing i cs k).score t (sound_final i opened (take k cs) sound_opened).score;
     }
+  where
+    -- the list as a whole: its calls, one after the other, answer and leave what the machine's do
+    follows : {s s'' : Session} {left left'' : List Float} {calls : List Call} {answers : List Reply} → Runs i s left calls answers s'' left'' → (p : Machine) → Stands i s left p
+        → (answers ≡ replies i p calls) × Stands i s'' left'' (final i p calls)
+    follows Runs.done p g = (refl, g)
+    follows (Runs.next {s = s} {work = left} c out trace r left' out' trace' h rest) p g =
+        let t = call_step i s left p g c out trace r left' out' trace' h in
+        let u = follows rest _ t.0 in
+        (cc (t.1, u.0), u.1)

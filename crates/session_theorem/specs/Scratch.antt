@@ -82,17 +82,22 @@ module _ (i : Instrument) (s : Session) (work : List Float) (r r' : Outcome) (le
   edits_same q number events d d' =
       both_accepted (d.answer ∙ sym d'.answer) (d.session ∙ sym d'.session) (d.memory ∙ sym d'.memory) (rw d.answer refl)
 
-  -- one call: enough scratch twice, or too little twice
-  pub any_scratch : (c : Call) (a b : ℕ) → scratch_test i a ≡ scratch_test i b → (out trace out₀ trace₀ : List Float)
+  -- one call, with a and b scratch cells that 9 refuses alike
+  alike_refused : (c : Call) (a b : ℕ) (alike : scratch_test i a ≡ scratch_test i b) (out trace out₀ trace₀ : List Float)
       → CallMeets i s work (with_scratch a c) out trace r left out₁ trace₁ → CallMeets i s work (with_scratch b c) out₀ trace₀ r' left' out₂ trace₂ → Agree
-  any_scratch (Call.play _ m n) a b e out trace out₀ trace₀ h h' =
+  alike_refused (Call.play _ m n) a b e out trace out₀ trace₀ h h' =
       let outs = h.0 ∙ sym h'.0 in
       meets_both _ _ h.2 h'.2 (rw (e, outs, h.1 ∙ sym h'.1) refl) (λ q k k'. both_refused _ _ q (k.0, k.1) (k'.0, k'.1))
       (λ z d d'. plays_same out trace out₀ trace₀ outs d d')
-  any_scratch Call.cue a b e out trace out₀ trace₀ h h' = meets_both _ _ h h' refl (both_refused _ _) (λ z d d'. cues_same _ refl d d')
-  any_scratch (Call.go _ p) a b e out trace out₀ trace₀ h h' = meets_both _ _ h h' (rw e refl) (both_refused _ _) (λ z d d'. goes_same _ _ d d')
-  any_scratch (Call.insert x) a b e out trace out₀ trace₀ h h' = meets_both _ _ h h' refl (both_refused _ _) (λ z d d'. edits_same _ _ _ d d')
-  any_scratch (Call.remove index) a b e out trace out₀ trace₀ h h' = meets_both _ _ h h' refl (both_refused _ _) (λ z d d'. edits_same _ _ _ d d')
+  alike_refused Call.cue a b e out trace out₀ trace₀ h h' = meets_both _ _ h h' refl (both_refused _ _) (λ z d d'. cues_same _ refl d d')
+  alike_refused (Call.go _ p) a b e out trace out₀ trace₀ h h' = meets_both _ _ h h' (rw e refl) (both_refused _ _) (λ z d d'. goes_same _ _ d d')
+  alike_refused (Call.insert x) a b e out trace out₀ trace₀ h h' = meets_both _ _ h h' refl (both_refused _ _) (λ z d d'. edits_same _ _ _ d d')
+  alike_refused (Call.remove index) a b e out trace out₀ trace₀ h h' = meets_both _ _ h h' refl (both_refused _ _) (λ z d d'. edits_same _ _ _ d d')
+
+  -- one call: enough scratch twice, or too little twice
+  pub any_scratch : (c : Call) (a b : ℕ) → scratch_test i a ≡ scratch_test i b → (out trace out₀ trace₀ : List Float)
+      → CallMeets i s work (with_scratch a c) out trace r left out₁ trace₁ → CallMeets i s work (with_scratch b c) out₀ trace₀ r' left' out₂ trace₂ → Agree
+  any_scratch c a b e = alike_refused c a b e
 
 -- a list of calls
 pub scratch_decides_nothing : (i : Instrument) {s s₁ s₂ : Session} {work work₁ work₂ : List Float} {cs cs' : List Call} {rs rs' : List Reply}
@@ -100,6 +105,6 @@ pub scratch_decides_nothing : (i : Instrument) {s s₁ s₂ : Session} {work wor
 scratch_decides_nothing i SameButScratch.done Runs.done Runs.done = (refl, refl, refl)
 scratch_decides_nothing i (SameButScratch.next c a b e same) (Runs.next {s = s} {work = work} _ out trace r left out₁ trace₁ h rest)
     (Runs.next _ out₀ trace₀ r' left' out₂ trace₂ h' rest') =
-    let t = any_scratch i s work r r' left left' out₁ trace₁ out₂ trace₂ c a b e out trace out₀ trace₀ h h' in
+    let t = alike_refused i s work r r' left left' out₁ trace₁ out₂ trace₂ c a b e out trace out₀ trace₀ h h' in
     let u = scratch_decides_nothing i same rest (rw (sym t.outcome, sym t.memory) at rest') in
     (cc (t.reply, u.0), u.1, u.2)
