@@ -1,5 +1,5 @@
 -- What the clamps give: each length is at least 1, and from n = 3 on "their three lengths sum to n". Assumes nothing.
-use Rattle.std.specs.Prelude.{◌≡◌, ℕ, ◌+◌, ◌-◌, ◌^◌, ◌<◌, ◌≤◌, max, refl, Float}
+use Rattle.std.specs.Prelude.{◌≡◌, ℕ, ◌+◌, ◌-◌, ◌^◌, ◌<◌, ◌≤◌, max, Float}
 use Rattle.std.proofs.Common.{arith}
 use Rattle.cuts.specs.declared.Cuts.{Cuts}
 use Rattle.cuts.specs.Cuts.{half_of, cell_at, cuts_of}

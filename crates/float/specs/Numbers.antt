@@ -1,6 +1,6 @@
 -- What a test of the code says of NaN: `x != x` tells it, whatever compares is none, and no pattern up to infinity's is its. Assumes nothing.
 use Rattle.std.specs.Prelude.{◌≡◌, ℕ, ◌%◌, ◌^◌, ◌≤◌, Bool, true, false, not, T, refl, Float}
-use Rattle.std.proofs.Common.{sym, ap, ◌∙◌, subst, true≢false, le-ltb}
+use Rattle.std.proofs.Common.{sym, ◌∙◌, subst, true≢false, le-ltb}
 use Rattle.std.proofs.lemmas.Bool.{false≢true}
 use Rattle.std.specs.Float.{nan, inf, fin, binary64}
 use Rattle.std.specs.Float.Ieee.{le, lt, ne, is_nan, nan_bits}

@@ -1,6 +1,5 @@
 -- j cells are copied, and the cells to read lie outside what was written.
 use mathlib.Core.Path.{refl}
-use Prim.Native.Nat.{◌-◌}
 use native.Mathlib.Omega.{arith}
 use Rattle.cells.proofs.Copies.{copy_none, copy_turn, copy_long, copy_done}
 use Rattle.cells.proofs.copy_part.Goals as goal

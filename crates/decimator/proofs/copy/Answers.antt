@@ -1,6 +1,5 @@
 -- `decimator::copy` meets its contract. The invariant: the places before i hold the input's. Assumes nothing.
 use mathlib.Core.Path.{refl, ◌∙◌}
-use Prim.Native.Nat.{◌-◌}
 use native.Mathlib.Omega.{arith}
 use lib.ListN.{length}
 use Rattle.decimator.proofs.Cases.{stored_start, stored_turn, stored_end, whole_list}

@@ -1,6 +1,5 @@
 -- `decimator::filtered_at` meets its contract. The invariant: the sum is that of the taps before k. Assumes nothing.
 use mathlib.Core.Path.{refl, ◌∙◌, ap}
-use Prim.Native.Nat.{◌-◌}
 use native.Mathlib.Omega.{arith}
 use Rattle.decimator.specs.Decimate.{tap_sum}
 use Rattle.decimator.proofs.Cases.{tap_sum_more}

@@ -1,9 +1,8 @@
 -- `decimator::thin` meets its contract. The invariant: the places before i hold the filtered samples. Assumes nothing.
 use mathlib.Core.Path.{refl}
-use Prim.Native.Nat.{◌-◌, ◌*◌, ◌<◌}
+use Prim.Native.Nat.{◌*◌, ◌<◌}
 use native.Mathlib.Omega.{arith}
 use lib.ListN.{length}
-use Rattle.decimator.specs.Decimate.{filtered_at}
 use Rattle.decimator.proofs.Cases.{start_below, stored_start, stored_turn, stored_end}
 use Rattle.decimator.proofs.thin.Goals as goal
 

@@ -1,7 +1,7 @@
 -- `hammer::bisect_by_guess` meets its contract. The loop's invariant: with i halvings done, the ones left from lo and hi leave the ends that all fifty leave from 0 and top.
 -- Assumes nothing.
 use mathlib.Core.Path.{refl}
-use Prim.Native.Nat.{◌-◌, ◌<◌}
+use Prim.Native.Nat.{◌<◌}
 use native.Mathlib.Omega.{arith}
 use lib.Ieee.{lt, le}
 use Rattle.hammer.specs.Contact.{middle}

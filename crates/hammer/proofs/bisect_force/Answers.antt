@@ -1,7 +1,7 @@
 -- `hammer::bisect_force` meets its contract. The loop's invariant: with i halvings done, the ones left from lo and hi give what all fifty give from 0 and top.
 -- Assumes nothing.
 use mathlib.Core.Path.{refl}
-use Prim.Native.Nat.{◌-◌, ◌<◌}
+use Prim.Native.Nat.{◌<◌}
 use native.Mathlib.Omega.{arith}
 use mathlib.Core.Bool.{true, false}
 use Rattle.hammer.specs.Contact.{middle}

@@ -1,5 +1,4 @@
 -- `hammer::estimate_force` is safe and ends. Assumes nothing.
-use Prim.Native.Nat.{◌-◌}
 use native.Mathlib.Omega.{arith}
 use Rattle.hammer.proofs.estimate_force.Goals as goal
 

@@ -1,5 +1,5 @@
 -- `root::nearest_root` meets its contract. Before turn i the next digit's weight is half of d = 2 ^ (53 - i), and twice the number is y * d + 2 * q * q. Assumes nothing.
-use Rattle.std.proofs.Common.{◌-◌, ◌*◌, ◌^◌, arith}
+use Rattle.std.proofs.Common.{◌*◌, ◌^◌, arith}
 use Rattle.root.proofs.Squares.{turn_kept, turn_new, last_root, round_down, round_up}
 use Rattle.root.proofs.nearest_root.Goals.{then-t-y, else-t-y}
 use Rattle.root.proofs.nearest_root.Goals as goal

@@ -1,5 +1,5 @@
 -- `root::square`: the square of p in two 64-bit halves from the squares of its halves, of which no sum wraps (proofs/Quick.antt). Assumes nothing.
-use Rattle.std.proofs.Common.{◌-◌, arith}
+use Rattle.std.proofs.Common.{arith}
 use Rattle.root.proofs.Quick.{halves, mid_le, high_lt, square_is}
 use Rattle.root.proofs.square.Goals as goal
 
