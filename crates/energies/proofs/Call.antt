@@ -1,5 +1,5 @@
 -- What the calls leave to show: that a valid instrument's tables may be walked, and that the answer is what `key_energies` promises. Assumes nothing.
-use mathlib.Core.Path.{◌≡◌, refl, sym, ap, ◌∙◌}
+use mathlib.Core.Path.{◌≡◌, sym, ap, ◌∙◌}
 use mathlib.Core.Bool.{true}
 use mathlib.Core.List.{List}
 use Prim.Native.Nat.{ℕ, ◌≤◌, ◌<◌}
@@ -26,7 +26,7 @@ use Rattle.session_record.specs.Laws.{Passed, passed}
 use Rattle.energies.specs.declared.KeyEnergy.{KeyEnergy}
 use Rattle.energies.specs.declared.Energies.{Energies}
 use Rattle.energies.specs.declared.EnergiesAnswer.{EnergiesAnswer}
-use Rattle.energies.specs.Energy.{no_energy, key_energy, of_key, energies_of, no_energies_for, EnergiesMeet}
+use Rattle.energies.specs.Energy.{no_energy, key_energy, energies_of, no_energies_for, EnergiesMeet}
 use Rattle.energies.specs.Steps.{sums_after, pair_of}
 use Rattle.energies.proofs.Sums.{key_sum}
 

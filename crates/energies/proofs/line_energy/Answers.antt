@@ -1,6 +1,5 @@
 -- `energies::line_energy` meets its contract. The invariant: what is left to add gives the line's energy. Assumes nothing.
 use mathlib.Core.Path.{refl}
-use Prim.Native.Nat.{◌-◌}
 use native.Mathlib.Omega.{arith}
 use Rattle.energies.proofs.Sums.{summed_start, summed_turn, summed_end}
 use Rattle.energies.proofs.line_energy.Goals as goal

@@ -1,6 +1,6 @@
 -- `energies::pairs_of` meets its contract. The invariant: the pairs below k are in place, and zeros after them. Assumes nothing.
 use mathlib.Core.Path.{refl, ap, ◌∙◌}
-use Prim.Native.Nat.{ℕ, ◌-◌}
+use Prim.Native.Nat.{ℕ}
 use native.Mathlib.Omega.{arith}
 use Rattle.counting.specs.Below.{pad, tabulate}
 use Rattle.energies.specs.Energy.{no_energy}

@@ -1,6 +1,5 @@
 -- `energies::sum_strings` meets its contract. The invariant: strings below i are done, and what is left to do gives what the whole walk gives. Assumes nothing.
 use mathlib.Core.Path.{ap}
-use Prim.Native.Nat.{◌-◌}
 use native.Mathlib.Omega.{arith}
 use lib.ListN.{get_or, set}
 use lib.Ieee.{Float, nan, binary64, add}
