@@ -1,6 +1,6 @@
 -- Loops over a slice. What is done below i together with what is still to do from i is the whole run: so at the start, after each turn and at the end.
 -- Assumes nothing.
-use Rattle.std.proofs.Common.{◌≡◌, ℕ, ◌+◌, ◌<◌, ◌≤◌, List, [], ◌∷◌, ◌++◌, map, length, get_or, take, drop, set, refl, ◌∙◌, append-nil, add-one, arith, length-set, drop_of_length-le, take_all, drop-cons, take-suc-set, drop-set-lt}
+use Rattle.std.proofs.Common.{◌≡◌, ℕ, ◌+◌, ◌<◌, ◌≤◌, List, ◌∷◌, ◌++◌, map, length, get_or, take, drop, set, refl, ◌∙◌, append-nil, add-one, arith, length-set, drop_of_length-le, take_all, drop-cons, take-suc-set, drop-set-lt}
 use lib.Seq.{append_snoc}
 use lib.Ieee.{Float, nan, binary64, add, sub}
 use Rattle.root.specs.Root.{root_of}

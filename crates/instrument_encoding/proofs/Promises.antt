@@ -6,8 +6,8 @@ use Rattle.instrument.specs.Valid.{valid}
 use Rattle.instrument_encoding.specs.Encode.{encode}
 use Rattle.instrument_encoding.specs.Typed.{Typed}
 use Rattle.instrument_encoding.specs.Accepted.{accepted_valid}
-use Rattle.instrument_encoding.specs.Reread.{encode_read}
-use Rattle.instrument_encoding.specs.Written.{bytes_encode}
+use Rattle.instrument_encoding.proofs.Reread.{encode_read}
+use Rattle.instrument_encoding.proofs.Written.{bytes_encode}
 use Rattle.instrument_encoding.specs.Files.{GivenTest}
 
 pub given_test : (i : Instrument) (r : Bool) → Typed i → r ≡ valid i → GivenTest i r

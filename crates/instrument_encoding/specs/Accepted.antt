@@ -1,5 +1,5 @@
 -- Every accepted file gives an instrument that passes refusal 7's test. Assumes nothing.
-use Rattle.std.specs.Prelude.{◌≡◌, Bool, false, not, cond, List, ℕ, suc, ◌+◌, ◌-◌, ◌≤◌, ◌<◌, ltb, length}
+use Rattle.std.specs.Prelude.{◌≡◌, Bool, false, not, cond, List, ℕ, suc, ◌-◌, ◌≤◌, ◌<◌, ltb, length}
 use Rattle.std.proofs.Math.Path.{refl, ap}
 use Rattle.std.proofs.Common.{sym, ◌∙◌, subst, le_refl, arith}
 use Rattle.std.proofs.Math.Bool.{true}
@@ -18,7 +18,7 @@ use Rattle.counting.specs.Below.{pad}
 use Rattle.counting.specs.Laws.{all_at, all_build, get_d_tabulate, all_gather, pad_first}
 use Rattle.instrument_file.specs.File.{section, key_section, headed, chained, measured, fielded, fielded_key, loop_in, keys_in, strings_in, instrument_of, refused, accepted, read_of}
 use Rattle.instrument_file.specs.FileLaws.{sections_low, sections_high, count_in, run_in, length_run, strings_length, keys_length, sum_in, fielded_key_lem, keys_in_range_lem}
-use Rattle.instrument.specs.Valid.{key_at, string_at, past_key, past_string, string_sum, keys_apart, keys_unused, strings_in_range, strings_unused, counted, keys_valid, strings_valid, valid}
+use Rattle.instrument.specs.Valid.{string_at, past_key, past_string, string_sum, keys_apart, keys_unused, strings_in_range, strings_unused, counted, keys_valid, strings_valid, valid}
 use Rattle.instrument_encoding.specs.Parts.{pad_rest}
 
 -- ---- what acceptance says

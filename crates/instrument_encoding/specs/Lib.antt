@@ -4,11 +4,7 @@ pub mod InRange
 pub mod Chain
 pub mod Sections
 pub mod Accepted
-pub mod Rewritten
 pub mod Typed
 pub mod FieldsBack
 pub mod Placed
-pub mod Lengths
-pub mod Reread
-pub mod Written
 pub mod Files

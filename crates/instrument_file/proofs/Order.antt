@@ -1,5 +1,5 @@
 -- The refusals in their order: what has passed before each. Assumes nothing.
-use mathlib.Core.Path.{◌≡◌}
+use mathlib.Core.Path.{◌≡◌, refl}
 use mathlib.Core.Bool.{true, false}
 use mathlib.Core.List.{List}
 use Prim.Native.Nat.{ℕ, ◌-◌, ◌≤◌, ◌<◌}
@@ -76,3 +76,14 @@ module _ (f : List ℕ) where
         pub accepts : keys_apart keys n ≡ true → read_of f ≡ accepted (instrument_of f n)
         unfolding read_of instrument_of
         accepts h = rw (← a.count, a.headed, b.chained, c.measured, d.fielded, ← e.keys_are, ← e.sum_is, le-ltb 32 m few, h)
+
+-- a file that passes the first four tests and has more than 32 strings, in the file's own words
+pub refused_over : (f : List ℕ) → headed f ≡ true → chained f (u32_at f 0 - 1) ≡ true → measured f (u32_at f 0 - 1) ≡ true → fielded f (u32_at f 0 - 1) ≡ true
+    → 32 < string_sum (pad 16 no_key (keys_in f (u32_at f 0 - 1))) (u32_at f 0 - 1) → read_of f ≡ refused 5
+refused_over f h1 h2 h3 h4 h5 =
+    let n = u32_at f 0 - 1 in
+    let a : Headed f n = record { count = refl; headed = h1 } in
+    let b : Chained f n = record { before = a; chained = h2 } in
+    let c : Measured f n = record { before = b; measured = h3 } in
+    let d : Fielded f n = record { before = c; fielded = h4 } in
+    refused_5 f n (pad 16 no_key (keys_in f n)) (string_sum (pad 16 no_key (keys_in f n)) n) (record { before = d; keys_are = refl; sum_is = refl }) h5

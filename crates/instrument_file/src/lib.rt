@@ -258,6 +258,7 @@ fn accept(f: &[u8], n: usize, m: usize, keys: [KeyDesign; 16]) -> ReadAnswer
 }
 
 // The instrument of a file, or the first refusal of 1 to 6 that the whole file meets.
+#[tactic(auto, using(crate::proofs::Order::refused_over))]
 pub fn read(f: &[u8]) -> ReadAnswer
     ensures { result ≡ read_of f.now }
 {

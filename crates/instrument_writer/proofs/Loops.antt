@@ -16,7 +16,7 @@ use Rattle.counting.specs.Laws.{sum_same, gather_first, length_gather}
 use Rattle.instrument.specs.Valid.{key_at, string_at, string_sum, valid}
 use Rattle.instrument.specs.ValidLaws.{few_strings_lem, string_sum_none, string_sum_more, string_sum_within, valid_counts, keys_ranges, strings_counted}
 use Rattle.instrument_encoding.specs.Encode.{common_bytes, string_bytes, key_bytes, section_bytes, section_start}
-use Rattle.instrument_encoding.specs.Lengths.{strings_length, common_length, section_length, sections_length}
+use Rattle.instrument_encoding.proofs.Lengths.{strings_length, common_length, section_length, sections_length}
 use Rattle.instrument_encoding.specs.Placed.{pair_length}
 use Rattle.instrument_writer.specs.Pieces.{pair_bytes, table_bytes}
 use Rattle.instrument_writer.proofs.Stored.{gathered_next}

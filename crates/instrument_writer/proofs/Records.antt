@@ -14,7 +14,7 @@ use Rattle.instrument_fields.specs.declared.Common.{Common}
 use Rattle.instrument_fields.specs.declared.KeyDesign.{KeyDesign}
 use Rattle.instrument_fields.specs.declared.LoopDesign.{LoopDesign}
 use Rattle.instrument_encoding.specs.Encode.{common_bytes, string_bytes, four_bytes, head_bytes, key_bytes}
-use Rattle.instrument_encoding.specs.Lengths.{head_length}
+use Rattle.instrument_encoding.proofs.Lengths.{head_length}
 use Rattle.instrument_writer.proofs.Stored.{float_then, half_then, four_then, bytes_then}
 
 -- the bytes of four floats

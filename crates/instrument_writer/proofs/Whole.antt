@@ -16,7 +16,7 @@ use Rattle.instrument.specs.declared.Instrument.{Instrument}
 use Rattle.instrument.specs.Valid.{valid}
 use Rattle.instrument_file.specs.File.{read_of}
 use Rattle.instrument_encoding.specs.Encode.{section_bytes, encode}
-use Rattle.instrument_encoding.specs.Rewritten.{read_encode}
+use Rattle.instrument_encoding.proofs.Rewritten.{read_encode}
 use Rattle.instrument_encoding.specs.Files.{GivenTest}
 use Rattle.instrument_writer.specs.Pieces.{table_bytes, table_sections, counted_length, length_counted}
 use Rattle.instrument_writer.specs.Write.{write_refusal, not_written, wrote, WriteMeets}

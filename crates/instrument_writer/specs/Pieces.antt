@@ -7,7 +7,7 @@ use Rattle.instrument.specs.declared.Instrument.{Instrument}
 use Rattle.instrument.specs.Valid.{valid}
 use Rattle.instrument.specs.ValidLaws.{valid_counts}
 use Rattle.instrument_encoding.specs.Encode.{section_bytes, section_start, packed, encode}
-use Rattle.instrument_encoding.specs.Lengths.{encode_length}
+use Rattle.instrument_encoding.proofs.Lengths.{encode_length}
 
 -- "D pairs of u32, offset and length": that of section k
 abbrev pub pair_bytes : Instrument → ℕ → List ℕ

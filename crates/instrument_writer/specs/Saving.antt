@@ -9,7 +9,7 @@ use Rattle.instrument_file.specs.declared.ReadAnswer.{ReadAnswer}
 use Rattle.instrument_file.specs.File.{accepted, read_of}
 use Rattle.instrument_encoding.specs.Encode.{encode}
 use Rattle.instrument_encoding.specs.Accepted.{accepted_valid}
-use Rattle.instrument_encoding.specs.Rewritten.{read_encode}
+use Rattle.instrument_encoding.proofs.Rewritten.{read_encode}
 use Rattle.instrument_writer.specs.declared.WriteAnswer.{WriteAnswer}
 use Rattle.instrument_writer.specs.Write.{write_refusal, wrote, WriteMeets}
 

@@ -1,6 +1,5 @@
 -- The invariant: `all` says whether the number of key n differs from that of each key before i. Start, turn and end are counting's laws of Tested.
 use Rattle.instrument.specs.Valid.{new_key}
-use Prim.Native.Nat.{◌-◌}
 use native.Mathlib.Omega.{arith}
 use Rattle.counting.specs.Laws.{tested_none, tested_next, tested_all}
 use Rattle.instrument.proofs.is_new_key.Goals as goal

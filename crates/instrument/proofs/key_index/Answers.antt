@@ -1,5 +1,4 @@
 -- The invariant: none of the keys below k has the number. Assumes nothing.
-use Prim.Native.Nat.{◌-◌}
 use native.Mathlib.Omega.{arith}
 use Rattle.instrument.proofs.Sought.{sought_start, sought_found, sought_turn, sought_end}
 use Rattle.instrument.proofs.key_index.Goals as goal

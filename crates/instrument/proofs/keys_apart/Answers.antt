@@ -1,6 +1,5 @@
 -- The invariant: `all` says whether the number of each key before i differs from those before it. Start, turn and end are counting's laws of Tested.
 use Rattle.instrument.specs.Valid.{keys_apart}
-use Prim.Native.Nat.{◌-◌}
 use native.Mathlib.Omega.{arith}
 use Rattle.counting.specs.Laws.{tested_none, tested_next, tested_all}
 use Rattle.instrument.proofs.keys_apart.Goals as goal

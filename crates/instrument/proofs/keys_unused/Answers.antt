@@ -1,6 +1,5 @@
 -- The invariant: `all` says whether the i keys from m on are zeros. Start, turn and end are counting's laws of Tested.
 use Rattle.instrument.specs.Valid.{keys_unused}
-use Prim.Native.Nat.{◌-◌}
 use native.Mathlib.Omega.{arith}
 use Rattle.counting.specs.Laws.{tested_none, tested_next, tested_all}
 use Rattle.instrument.proofs.keys_unused.Goals as goal

@@ -1,5 +1,4 @@
 -- The invariant: w is the sum of the cells of the strings before j, at most 4,137 each, so that no sum wraps.
-use Prim.Native.Nat.{◌-◌}
 use native.Mathlib.Omega.{arith}
 use borrow.Author.Tests.{le-leb, lt-leb}
 use Rattle.instrument.specs.Work.{counted_part}

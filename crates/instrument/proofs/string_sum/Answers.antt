@@ -1,5 +1,4 @@
 -- The invariant: m is the sum of the strings of the keys before i; a key in range has at most 3, so that no sum wraps.
-use Prim.Native.Nat.{◌-◌}
 use native.Mathlib.Omega.{arith}
 use mathlib.Core.Path.{refl}
 use Rattle.instrument.specs.Valid.{string_sum}

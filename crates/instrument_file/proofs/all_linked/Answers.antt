@@ -1,5 +1,4 @@
 -- The invariant: `all` says whether each section before i ends where the next starts. Start, turn and end are counting's laws of Tested.
-use Prim.Native.Nat.{◌-◌}
 use native.Mathlib.Omega.{arith}
 use Rattle.counting.specs.Laws.{tested_none, tested_next, tested_all}
 use Rattle.instrument_file.proofs.all_linked.Goals as goal

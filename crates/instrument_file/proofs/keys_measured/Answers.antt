@@ -1,7 +1,6 @@
 -- The invariant: `all` says whether the sections of the keys before i have their lengths. Start, turn and end are counting's laws of Tested.
 use mathlib.Core.Path.{ap, ◌∙◌}
 use Rattle.instrument_file.specs.File.{measured_key}
-use Prim.Native.Nat.{◌-◌}
 use native.Mathlib.Omega.{arith}
 use Rattle.counting.specs.Laws.{tested_none, tested_next, tested_all}
 use Rattle.instrument_file.proofs.keys_measured.Goals as goal

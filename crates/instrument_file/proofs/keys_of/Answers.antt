@@ -1,6 +1,5 @@
 -- The invariant: the keys before i are in place, and zeros after them. Start, turn and end are laws of proofs/Filled.antt.
 use mathlib.Core.Path.{ap, ◌∙◌}
-use Prim.Native.Nat.{◌-◌}
 use native.Mathlib.Omega.{arith}
 use Rattle.instrument_fields.specs.Fields.{key_of}
 use Rattle.instrument_file.proofs.Filled.{keys_none, keys_next, keys_all}

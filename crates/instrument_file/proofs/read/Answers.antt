@@ -5,7 +5,7 @@ use native.Mathlib.Omega.{arith}
 use Rattle.instrument_fields.specs.declared.KeyDesign.{KeyDesign}
 use Rattle.instrument.specs.Valid.{keys_in_range}
 use Rattle.instrument_file.specs.FileLaws.{keys_in_range_lem}
-use Rattle.instrument_file.proofs.Order.{Headed, Chained, Measured, Fielded, Summed, refused_1, refused_2, refused_3, refused_4, refused_5, refused_6, accepts}
+use Rattle.instrument_file.proofs.Order.{Headed, Chained, Measured, Fielded, Summed, refused_1, refused_2, refused_3, refused_4, refused_6, accepts}
 use Rattle.instrument_file.proofs.read.Goals as goal
 
 pub returns-then-not-is_headed : goal.returns-then-not-is_headed
@@ -49,17 +49,6 @@ string_sum-m-requires c =
     let fielded : Fielded f n = record { before = measured; fielded = sym c.is_fielded.ensures ∙ c.if-not-is_fielded.false } in
     (omega arith, ap (λ (l : List KeyDesign). keys_in_range l n) c.keys_of-keys.ensures ∙ keys_in_range_lem f n fielded.fielded)
 
-pub returns-then-m-gt32 : goal.returns-then-m-gt32
-returns-then-m-gt32 c =
-    let f = c.args.f.now in
-    let n = c.key_count-n.result in
-    let headed : Headed f n = record { count = c.key_count-n.ensures.0; headed = sym c.is_headed.ensures ∙ c.if-not-is_headed.false } in
-    let chained : Chained f n = record { before = headed; chained = sym c.is_chained.ensures ∙ c.if-not-is_chained.false } in
-    let measured : Measured f n = record { before = chained; measured = sym c.is_measured.ensures ∙ c.if-not-is_measured.false } in
-    let fielded : Fielded f n = record { before = measured; fielded = sym c.is_fielded.ensures ∙ c.if-not-is_fielded.false } in
-    let summed : Summed f n c.keys_of-keys.result c.string_sum-m.result = record { before = fielded; keys_are = c.keys_of-keys.ensures; sum_is = c.string_sum-m.ensures } in
-    c.refuse-then-m-gt32.ensures ∙ sym (refused_5 f n _ _ summed c.if-m-gt32.true)
-
 pub returns-then-not-keys_apart : goal.returns-then-not-keys_apart
 returns-then-not-keys_apart c =
     let f = c.args.f.now in
@@ -69,7 +58,7 @@ returns-then-not-keys_apart c =
     let measured : Measured f n = record { before = chained; measured = sym c.is_measured.ensures ∙ c.if-not-is_measured.false } in
     let fielded : Fielded f n = record { before = measured; fielded = sym c.is_fielded.ensures ∙ c.if-not-is_fielded.false } in
     let summed : Summed f n c.keys_of-keys.result c.string_sum-m.result = record { before = fielded; keys_are = c.keys_of-keys.ensures; sum_is = c.string_sum-m.ensures } in
-    c.refuse-then-not-keys_apart.ensures ∙ sym (refused_6 f n _ _ summed c.if-m-gt32.false (sym c.keys_apart.ensures ∙ c.if-not-keys_apart.true))
+    c.refuse-then-not-keys_apart.ensures ∙ sym (refused_6 f n _ _ summed (omega arith) (sym c.keys_apart.ensures ∙ c.if-not-keys_apart.true))
 
 pub returns : goal.returns
 returns c =
@@ -80,4 +69,4 @@ returns c =
     let measured : Measured f n = record { before = chained; measured = sym c.is_measured.ensures ∙ c.if-not-is_measured.false } in
     let fielded : Fielded f n = record { before = measured; fielded = sym c.is_fielded.ensures ∙ c.if-not-is_fielded.false } in
     let summed : Summed f n c.keys_of-keys.result c.string_sum-m.result = record { before = fielded; keys_are = c.keys_of-keys.ensures; sum_is = c.string_sum-m.ensures } in
-    c.accept.ensures ∙ sym (accepts f n _ _ summed c.if-m-gt32.false (sym c.keys_apart.ensures ∙ c.if-not-keys_apart.false))
+    c.accept.ensures ∙ sym (accepts f n _ _ summed (omega arith) (sym c.keys_apart.ensures ∙ c.if-not-keys_apart.false))

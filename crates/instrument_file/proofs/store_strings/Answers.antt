@@ -1,5 +1,4 @@
 -- The invariant: the section's strings before j are stored from m on. Start, turn and end are laws of proofs/Filled.antt.
-use Prim.Native.Nat.{◌-◌}
 use native.Mathlib.Omega.{arith}
 use Rattle.instrument_file.proofs.Filled.{run_none, run_next, run_all}
 use Rattle.instrument_file.proofs.store_strings.Goals as goal

@@ -1,8 +1,6 @@
 -- The invariant: `all` says whether the section's strings before i are in range. Start, turn and end are counting's laws of Tested.
 use mathlib.Core.Path.{ap, ◌∙◌}
 use Rattle.instrument_fields.specs.Ranges.{string_in_range}
-use Rattle.instrument_file.specs.File.{loop_in}
-use Prim.Native.Nat.{◌-◌}
 use native.Mathlib.Omega.{arith}
 use Rattle.counting.specs.Laws.{tested_none, tested_next, tested_all}
 use Rattle.instrument_file.proofs.strings_fielded.Goals as goal

@@ -1,5 +1,4 @@
 -- The invariant: the strings of the keys before i are in place, m of them, and zeros after them. Start, turn and end are laws of proofs/Filled.antt.
-use Prim.Native.Nat.{◌-◌}
 use native.Mathlib.Omega.{arith}
 use Rattle.instrument_file.proofs.Filled.{strings_none, strings_room, strings_next, strings_all}
 use Rattle.instrument_file.proofs.strings_of.Goals as goal

@@ -1,6 +1,6 @@
 -- The sections behind the table: `file_stored`. The room that both need is the file's length.
 use native.Mathlib.Omega.{arith}
-use Rattle.instrument_encoding.specs.Lengths.{encode_length}
+use Rattle.instrument_encoding.proofs.Lengths.{encode_length}
 use Rattle.instrument_writer.proofs.Whole.{file_stored}
 use Rattle.instrument_writer.proofs.put_file.Goals as goal
 

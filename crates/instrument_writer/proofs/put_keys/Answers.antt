@@ -1,6 +1,5 @@
 -- The invariant: the sections of the first k keys are stored up to `at`, with m strings. One turn is `key_next`.
 use mathlib.Core.Path.{◌≡◌, refl, ◌∙◌}
-use Prim.Native.Nat.{◌-◌}
 use native.Mathlib.Omega.{arith}
 use lib.ListN.{length}
 use Rattle.counting.specs.Below.{gather}

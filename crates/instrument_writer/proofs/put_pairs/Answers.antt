@@ -1,6 +1,5 @@
 -- The invariant: the pairs of the first k keys are stored, and the next section starts at `offset`. One turn is `pair_next`.
 use mathlib.Core.Path.{◌≡◌, refl, ◌∙◌}
-use Prim.Native.Nat.{◌-◌}
 use native.Mathlib.Omega.{arith}
 use lib.ListN.{length}
 use Rattle.counting.specs.Below.{gather}

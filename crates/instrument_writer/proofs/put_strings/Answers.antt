@@ -1,6 +1,6 @@
 -- The invariant: the first j are stored. One turn is `string_next`.
 use mathlib.Core.Path.{◌≡◌, refl, ◌∙◌}
-use Prim.Native.Nat.{◌+◌, ◌-◌}
+use Prim.Native.Nat.{◌+◌}
 use native.Mathlib.Omega.{arith}
 use Rattle.counting.specs.Below.{gather}
 use Rattle.instrument.specs.Valid.{string_at}

@@ -1,6 +1,5 @@
 -- The invariant: `all` says whether the keys before j are there, and the pairs from j on bring the record to what all of them give. Assumes nothing.
 use mathlib.Core.Path.{refl}
-use Prim.Native.Nat.{◌-◌}
 use native.Mathlib.Omega.{arith}
 use Rattle.counting.specs.Laws.{tested_none, tested_next, tested_all}
 use Rattle.weights.proofs.Pairs.{setting_turn, setting_end, whole_is}

@@ -1,5 +1,4 @@
 -- What is done below i and what is to do from i is the whole sweep (`Swept`); each turn leaves fewer numbers. Assumes nothing.
-use Rattle.std.proofs.Common.{◌-◌}
 use Rattle.exports.proofs.Runs.{swept_start, swept_turn, swept_end}
 use Rattle.exports.proofs.leaves.leaf_force_sweep.Goals as goal
 

@@ -1,5 +1,5 @@
 -- The chain from i on, started with the root before, is the whole chain (`Chained`); each turn leaves fewer numbers. Assumes nothing.
-use Rattle.std.proofs.Common.{◌-◌, refl}
+use Rattle.std.proofs.Common.{refl}
 use Rattle.exports.proofs.Runs.{chained_turn, chained_end}
 use Rattle.exports.proofs.leaves.leaf_root_chain.Goals as goal
 

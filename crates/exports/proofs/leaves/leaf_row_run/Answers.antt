@@ -1,5 +1,5 @@
 -- What is done below i and what the row as it stands gives from i on is the whole run (`Ran`); each turn leaves fewer inputs. Assumes nothing.
-use Rattle.std.proofs.Common.{◌-◌, rules}
+use Rattle.std.proofs.Common.{rules}
 use Rattle.exports.proofs.Runs.{ran_start, ran_turn, ran_end}
 use Rattle.exports.proofs.leaves.leaf_row_run.Goals as goal
 

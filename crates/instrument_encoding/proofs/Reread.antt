@@ -30,7 +30,7 @@ use Rattle.instrument_encoding.specs.Encode.{common_bytes, string_bytes, four_by
 use Rattle.instrument_encoding.specs.Typed.{FitKey, FitString, Typed}
 use Rattle.instrument_encoding.specs.Parts.{all_from, pad_is}
 use Rattle.instrument_encoding.specs.FieldsBack.{string_back, key_back, common_back, no_key_lem, no_string_lem}
-use Rattle.instrument_encoding.specs.Lengths.{common_length, head_length, string_length, key_length}
+use Rattle.instrument_encoding.proofs.Lengths.{common_length, head_length, string_length, key_length}
 use Rattle.instrument_encoding.specs.Placed.{StandsAt, at_gather, at_later, packed_length, section_at, count_back, off_back, len_back}
 
 -- ---- one key's section
