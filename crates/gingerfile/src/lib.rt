@@ -15,7 +15,10 @@ ghost use Rattle.gingerfile.specs.Energies.{no_energies, flat_of, EnergiesCross}
 
 use crossing::{Report, Sizes};
 use energies::KeyEnergy;
+use instrument::Instrument;
 use score::TimedEvent;
+use session::Outcome;
+use session_record::Session;
 
 // Each key's energy and number in the file's order, zeros past the last; the refusal's number, 0 for none.
 #[repr(C)]
@@ -75,6 +78,14 @@ pub extern "C" fn gingerfile_play(
     crossing::keep(words, outcome)
 }
 
+// The cue in a frame of its own, which is not there yet while `begin` has its: GINGERFILE_STACK holds for either.
+#[inline(never)]
+fn cued(instrument: Instrument, session: Session, work: &mut [f64]) -> Outcome
+    ensures { CueMeets instrument session work.old result work.new }
+{
+    session::cue(instrument, session, work)
+}
+
 #[unsafe(no_mangle)]
 pub extern "C" fn gingerfile_cue(file: &[u8], words: &mut [u64], work: &mut [f64]) -> Report
     ensures { Crosses file.now (is_session words.old) words.old result words.new (work.new ≡ work.old)
@@ -87,7 +98,7 @@ pub extern "C" fn gingerfile_cue(file: &[u8], words: &mut [u64], work: &mut [f64
     }
     let instrument = begun.instrument;
     let session = begun.session;
-    let outcome = session::cue(instrument, session, work);
+    let outcome = cued(instrument, session, work);
     crossing::keep(words, outcome)
 }
 
@@ -134,11 +145,9 @@ pub extern "C" fn gingerfile_insert(
         return crossing::refused(number);
     }
     if session_words::is_event(kind, key) {
-        let instrument = begun.instrument;
-        let session = begun.session;
         let event = session_words::event_of(kind, key, velocity);
         let timed = TimedEvent { position, event };
-        let outcome = session::insert(instrument, session, work, timed);
+        let outcome = session::insert(begun.instrument, begun.session, work, timed);
         return crossing::keep(words, outcome);
     }
     crossing::refused(crossing::RECORD)

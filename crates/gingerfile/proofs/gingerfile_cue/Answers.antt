@@ -13,4 +13,4 @@ keep-requires c =
 
 pub returns : goal.returns
 returns c =
-    call_made c.begin-begun.ensures c.if-number-ne0.false c.cue-outcome.ensures c.keep.ensures
+    call_made c.begin-begun.ensures c.if-number-ne0.false c.cued-outcome.ensures c.keep.ensures
