@@ -53,9 +53,15 @@ impl Radicand {
         ensures { result ≡ nearest_root (self.c * 2 ^ 52) }
     {
         match self.excess(p) {
-            Some(d) if p < d && d <= 3 * p + 2 => p + 1,
-            Some(d) if 3 * p + 2 < d && d <= 5 * p + 6 => p + 2,
-            Some(d) if 5 * p + 6 < d && d <= 7 * p + 12 => p + 3,
+            Some(d) if p < d && d <= 7 * p + 12 => {
+                if d <= 3 * p + 2 {
+                    p + 1
+                } else if d <= 5 * p + 6 {
+                    p + 2
+                } else {
+                    p + 3
+                }
+            }
             _ => self.nearest_root(),
         }
     }
@@ -163,14 +169,15 @@ pub fn root(x: f64) -> f64
         let bits: u64 = f64::to_bits(x);
         if bits < 0x7ff0_0000_0000_0000 {
             let s = paired(bits);
-            let n = Radicand { c: s.m };
             let low: u64 = (s.g / 2 - 26) << 52;
             if bits >= 0x0800_0000_0000_0000 {
                 let g = approximate(bits);
+                let n = Radicand { c: s.m };
                 if n.is_rounded(g, low) {
                     return g;
                 }
             }
+            let n = Radicand { c: s.m };
             f64::from_bits(low + n.rounded(n.guess()))
         } else {
             x
