@@ -1,5 +1,6 @@
 -- Bytes read and stored at a place near the end of a list. Assumes nothing.
-use Rattle.std.proofs.Common.{◌≡◌, refl, sym, ap, ◌∙◌, append_assoc, arith, min, ◌⊎◌, get_or-take, get_or-drop, length-take-le, length-append, length-take, length-drop, drop-drop, drop_of_length-le, take-append-drop}
+use Rattle.std.proofs.Common.{◌≡◌, refl, sym, ap, ◌∙◌, append_assoc, arith, min, get_or-take, get_or-drop, length-take-le, length-append}
+use Rattle.std.proofs.Common.{length-take, length-drop, drop-drop, drop_of_length-le, take-append-drop}
 use Rattle.std.proofs.Math.Logic.{⊎_elim}
 use Rattle.std.proofs.lemmas.Bool.{cases_lt}
 use mathlib.Core.List.{List, [], ◌∷◌, ◌++◌}

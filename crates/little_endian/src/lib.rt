@@ -1,4 +1,5 @@
-// Document 01, "Instrument file": "Little-endian." Whole numbers and floats at a place in lent bytes, for every place: past the end the bytes read count as 0, and bytes stored are left out.
+// Document 01, "Instrument file": "Little-endian." Whole numbers and floats at a place in lent bytes, for every place:
+// past the end the bytes read count as 0, and bytes stored are left out.
 #![tactic(auto)]
 
 ghost use Rattle.std.specs.Prelude.{◌≡◌, take, drop, set};

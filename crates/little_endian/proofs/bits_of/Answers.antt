@@ -1,7 +1,6 @@
 -- Past the first test x is a number.
-use mathlib.Core.Path.{refl, sym, ap, ◌∙◌}
-use mathlib.Core.Bool.{true}
-use lib.Ieee.{Float, nan, inf, fin, binary64, is_nan, to_bits}
+use mathlib.Core.Path.{sym, ap, ◌∙◌}
+use lib.Ieee.{binary64, to_bits}
 use Rattle.little_endian.proofs.Patterns.{nan_is}
 use Rattle.little_endian.proofs.bits_of.Goals as goal
 
