@@ -1,12 +1,12 @@
 -- The power by cases, as the code tests them. Assumes nothing.
-use mathlib.Core.Path.{◌≡◌, refl, sym, ap, ◌∙◌}
+use mathlib.Core.Path.{◌≡◌, refl, sym, ap, ◌∙◌, subst}
+use lib.Dec.{T}
 use Prim.Native.Nat.{ℕ, zero, suc, ◌-◌, ◌≤◌, ◌<◌}
 use native.Mathlib.Omega.{arith}
 use mathlib.Core.Bool.{true, false}
 use borrow.Author.Tests.{lt-ltb, le-ltb}
-use lib.Ieee.{Float, binary64, mul, lt, ne, is_nan}
+use lib.Ieee.{Float, nan, inf, fin, binary64, mul, lt, is_nan}
 use Rattle.float.specs.Float.{zero as +0}
-use Rattle.float.specs.Numbers.{differs_nan, same_number}
 use Rattle.root.specs.Root.{root_of}
 use Rattle.power.specs.Power.{halves_above, quarters_above, power_above, power_of}
 
@@ -85,10 +85,16 @@ quarters_more x r word t l q =
 
 -- ---- no number above 0
 
-pub power_nan : (x : Float) (word : ℕ) → lt +0 x ≡ false → ne x x ≡ true → x ≡ power_of x word
-unfolding power_of is_nan
-power_nan x word t n = rw t (rw (differs_nan x n))
+one_nan : (x : Float) → is_nan x ≡ true → x ≡ nan
+unfolding is_nan
+one_nan nan h = refl
+one_nan (inf s) h = absurd (subst T (sym h) tt)
+one_nan (fin s m e) h = absurd (subst T (sym h) tt)
 
-pub power_none : (x : Float) (word : ℕ) → lt +0 x ≡ false → ne x x ≡ false → +0 ≡ power_of x word
+pub power_nan : (x : Float) (word : ℕ) → lt +0 x ≡ false → is_nan x ≡ true → x ≡ power_of x word
+unfolding power_of is_nan
+power_nan x word t n = rw t (rw (one_nan x n))
+
+pub power_none : (x : Float) (word : ℕ) → lt +0 x ≡ false → is_nan x ≡ false → +0 ≡ power_of x word
 unfolding power_of
-power_none x word t n = rw (t, same_number x n)
+power_none x word t n = rw (t, n)
