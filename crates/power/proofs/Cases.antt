@@ -1,12 +1,12 @@
 -- The power by cases, as the code tests them. Assumes nothing.
-use mathlib.Core.Path.{◌≡◌, refl, sym, ap, ◌∙◌, subst}
-use lib.Dec.{T}
+use mathlib.Core.Path.{◌≡◌, refl, sym, ap, ◌∙◌}
 use Prim.Native.Nat.{ℕ, zero, suc, ◌-◌, ◌≤◌, ◌<◌}
 use native.Mathlib.Omega.{arith}
 use mathlib.Core.Bool.{true, false}
 use borrow.Author.Tests.{lt-ltb, le-ltb}
-use lib.Ieee.{Float, nan, inf, fin, binary64, mul, lt, is_nan}
+use lib.Ieee.{Float, binary64, mul, lt, is_nan}
 use Rattle.float.specs.Float.{zero as +0}
+use Rattle.float.specs.Numbers.{one_nan}
 use Rattle.root.specs.Root.{root_of}
 use Rattle.power.specs.Power.{halves_above, quarters_above, power_above, power_of}
 
@@ -84,12 +84,6 @@ quarters_more x r word t l q =
     ∙ sym (in_quarters x word t (omega arith) ∙ ap (quarters_above x) a)
 
 -- ---- no number above 0
-
-one_nan : (x : Float) → is_nan x ≡ true → x ≡ nan
-unfolding is_nan
-one_nan nan h = refl
-one_nan (inf s) h = absurd (subst T (sym h) tt)
-one_nan (fin s m e) h = absurd (subst T (sym h) tt)
 
 pub power_nan : (x : Float) (word : ℕ) → lt +0 x ≡ false → is_nan x ≡ true → x ≡ power_of x word
 unfolding power_of is_nan
