@@ -26,12 +26,15 @@ pub fn output_length(n: usize, factor: usize) -> usize
     }
 }
 
-// Whether a signal of n samples can be thinned.
+// The first refusal that the sizes meet.
 #[tactic(auto, using(crate::proofs::Cases::refusals))]
 fn test(n: usize, taps: usize, factor: usize, room: usize) -> Result<(), Refusal>
     ensures { number_in result ≡ refusal_of n taps factor room }
 {
-    if factor > 64 || n > MOST {
+    if factor > 64 {
+        return Err(Refusal::SignalLength);
+    }
+    if n > MOST {
         return Err(Refusal::SignalLength);
     }
     if taps != TAPS {
