@@ -1,6 +1,5 @@
 -- The strings behind the head: `key_stored`.
 use mathlib.Core.Path.{ap, ◌∙◌}
-use native.Mathlib.Omega.{arith}
 use Prim.Native.Nat.{ℕ, ◌+◌}
 use lib.Seq.{sets}
 use Rattle.counting.specs.Below.{gather}

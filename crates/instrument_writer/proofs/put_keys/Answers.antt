@@ -62,7 +62,7 @@ loop-key-preserved c =
       c.split_at.ensures.back ∙ rest_next i k _ same _ c.loop-key.invariant.2,
       rw same (at_next i a.p (length a.b.now) c.loop-key.at k c.loop-key.invariant.3 (omega (arith, c.loop-key.invariant.0))),
       key_turn i k a.b.now c.loop-key.b _ a.p c.loop-key.at _ _ here refl _ c.loop-key.invariant.2 c.loop-key.invariant.3.place c.loop-key.invariant.4
-      (c.put_key.ensures ∙ front),
+          (c.put_key.ensures ∙ front),
     )
 
 pub shape_of-b : goal.shape_of-b

@@ -1,7 +1,7 @@
 -- The invariant: the sections of the first keys are stored up to `at`, and `rest` is the strings of the others. One turn is `key_turn`.
 use mathlib.Core.Path.{◌≡◌}
 use Prim.Native.Nat.{suc}
-use lib.ListN.{length, take, drop}
+use lib.ListN.{length, drop}
 use lib.Seq.{sets}
 use Rattle.counting.specs.Below.{gather}
 use Rattle.instrument.specs.Valid.{string_sum}

@@ -1,7 +1,7 @@
 -- The invariant: the pairs of the first k keys are stored, and the next section starts at `offset`. One turn is `pair_next`.
 use mathlib.Core.Path.{◌≡◌}
 use Prim.Native.Nat.{suc}
-use lib.ListN.{length, take}
+use lib.ListN.{length}
 use lib.Seq.{sets}
 use Rattle.counting.specs.Below.{gather}
 use Rattle.instrument_writer.specs.Pieces.{pair_bytes}
