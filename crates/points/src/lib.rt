@@ -2,13 +2,13 @@
 #![tactic(auto)]
 
 ghost use Rattle.std.specs.Prelude.{◌≡◌, length};
-ghost use Rattle.string.specs.String.{Strung, IndicesAt, reads_of};
+ghost use Rattle.string.specs.String.{size_of, reads_of};
 ghost use Rattle.points.specs.Points.{remembered, touched, contact_of, contact_at, damped_by, turned, summed};
 
 use float::{min, positive_part};
 use hammer::{Hammer, contact_force};
 use power::power;
-use string::{Indices, Reads, StringDesign};
+use string::{Reads, StringAt};
 
 // What the rules compute from the instrument's numbers before the first sample; two_z is 2 z.
 #[derive(Clone, Copy)]
@@ -98,25 +98,22 @@ pub fn strike_string(
     part: &mut [f64],
     c: Constants,
     hammer: Option<Flight>,
-    d: StringDesign,
+    s: StringAt,
     damper_r: f64,
-    x: Indices,
-    t: u64,
 ) -> f64
-    requires strung { Strung d part.old }
-    requires indices_at { IndicesAt d t x }
-    ensures { (result ≡ (contact_at c hammer d (reads_of d t part.old) part.old).force)
-        × (part.new ≡ turned c hammer damper_r d t part.old) }
+    requires { length part.old ≡ size_of s.design }
+    ensures force { result ≡ (contact_at c hammer s.design (reads_of s.design s.t part.old) part.old).force }
+    ensures cells { part.new ≡ turned c hammer damper_r s.design s.t part.old }
 {
-    let at = d.layout();
-    let r = string::read_string(part, d, x, t);
+    let at = s.design.layout();
+    let r = s.read(part);
     let y_s = part[at.y_s];
-    let touch = feel(c, hammer, d.key, y_s, part[at.memory], r);
+    let touch = feel(c, hammer, s.design.key, y_s, part[at.memory], r);
     let inject_h = touch.force / c.two_z;
     let inject_d = inject(c, damper_r, r);
     part[at.memory] = touch.memory;
     part[at.y_s] = y_s + c.dt * (r.a + r.b + inject_h);
-    string::write_string(part, d, x, t, r, inject_h, inject_d);
+    s.write(part, r, inject_h, inject_d);
     touch.force
 }
 
