@@ -42,6 +42,19 @@ pub struct ForceSum {
     pub any_contact: bool,
 }
 
+impl ForceSum {
+    // One more string's force, f.
+    #[tactic(auto, unfolding(crate::specs::Points::summed))]
+    pub fn with(self, f: f64) -> ForceSum
+        ensures { result ≡ summed self f }
+    {
+        ForceSum {
+            force_sum: self.force_sum + f,
+            any_contact: f > 0.0 || self.any_contact,
+        }
+    }
+}
+
 fn memory_after(c: Constants, memory: f64, xp: f64) -> f64
     ensures { result ≡ remembered c memory xp }
 {
@@ -115,14 +128,4 @@ pub fn strike_string(
     part[at.y_s] = y_s + c.dt * (r.a + r.b + inject_h);
     s.write(part, r, inject_h, inject_d);
     touch.force
-}
-
-#[tactic(auto, unfolding(crate::specs::Points::summed))]
-pub fn add_force(s: ForceSum, f: f64) -> ForceSum
-    ensures { result ≡ summed s f }
-{
-    ForceSum {
-        force_sum: s.force_sum + f,
-        any_contact: f > 0.0 || s.any_contact,
-    }
 }

@@ -42,7 +42,7 @@ fn rows_of<const M: usize>(designs: &[StringDesign], here: Place) -> Rows
         starts[l] = at + layout.row;
         ap_a[l] = d.filter.ap_a;
         stages = stages.min(d.ap_count);
-        at = at + layout.size;
+        at += layout.size;
     }
     Rows {
         starts,

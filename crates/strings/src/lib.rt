@@ -65,7 +65,7 @@ pub fn strike_strings(
             t,
         };
         let f = points::strike_string(&mut part[at..end], c, hammer, s, damper_r[d.key]);
-        sum = points::add_force(sum, f);
+        sum = sum.with(f);
         at = end;
     }
     sum
@@ -101,7 +101,7 @@ pub fn bridge_strings(
             t,
         };
         s.send_back(&mut part[at..end], y - v);
-        f_bridge = f_bridge + z * (2.0 * v - y);
+        f_bridge += z * (2.0 * v - y);
         at = end;
     }
     f_bridge

@@ -11,8 +11,8 @@ pub loop-i-preserved : goal.loop-i-preserved
 loop-i-preserved c =
     let at = c.args in
     let i = c.loop-i.i in
-    let sum = c.add_force-sum.ensures ∙ ap (λ (y : Float). summed c.loop-i.sum y) c.strike_string-f.ensures.force in
-    at_turn c.loop-i.invariant c.loop-i-test.true c.layout.result.size c.strike_string-f.new.part c.add_force-sum.result c.layout.ensures.size
+    let sum = c.with-sum.ensures ∙ ap (λ (y : Float). summed c.loop-i.sum y) c.strike_string-f.ensures.force in
+    at_turn c.loop-i.invariant c.loop-i-test.true c.layout.result.size c.strike_string-f.new.part c.with-sum.result c.layout.ensures.size
     (turned_keeps at.c at.hammer at.damper_r.now at.t i (design_at at.designs.now i)) c.strike_string-f.ensures.cells sum
 
 pub returns : goal.returns
