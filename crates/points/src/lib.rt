@@ -2,13 +2,13 @@
 #![tactic(auto)]
 
 ghost use Rattle.std.specs.Prelude.{◌≡◌, length};
-ghost use Rattle.string.specs.String.{Strung, IndicesAt, reads_of};
+ghost use Rattle.string.specs.String.{size_of, reads_of};
 ghost use Rattle.points.specs.Points.{remembered, touched, contact_of, contact_at, damped_by, turned, summed};
 
 use float::{min, positive_part};
 use hammer::{Hammer, contact_force};
 use power::power;
-use string::{Indices, Reads, StringDesign};
+use string::{Reads, StringAt};
 
 // What the rules compute from the instrument's numbers before the first sample; two_z is 2 z.
 #[derive(Clone, Copy)]
@@ -20,15 +20,12 @@ pub struct Constants {
     pub hammer: Hammer,
 }
 
-// The Rust's `Option<HammerState>`.
+// A hammer that flies: the index of the key that it was struck at, where it is, and its speed. Where none flies there is no Flight.
 #[derive(Clone, Copy)]
-pub enum HammerState {
-    Resting,
-    Flying {
-        key_index: usize,
-        y_h: f64,
-        v_h: f64,
-    },
+pub struct Flight {
+    pub key_index: usize,
+    pub y_h: f64,
+    pub v_h: f64,
 }
 
 // A contact's force, and the felt's memory after it.
@@ -45,6 +42,19 @@ pub struct ForceSum {
     pub any_contact: bool,
 }
 
+impl ForceSum {
+    // One more string's force, f.
+    #[tactic(auto, unfolding(crate::specs::Points::summed))]
+    pub fn with(self, f: f64) -> ForceSum
+        ensures { result ≡ summed self f }
+    {
+        ForceSum {
+            force_sum: self.force_sum + f,
+            any_contact: f > 0.0 || self.any_contact,
+        }
+    }
+}
+
 fn memory_after(c: Constants, memory: f64, xp: f64) -> f64
     ensures { result ≡ remembered c memory xp }
 {
@@ -56,11 +66,11 @@ fn memory_after(c: Constants, memory: f64, xp: f64) -> f64
     }
 }
 
-fn touch(c: Constants, y_h: f64, v_h: f64, y_s: f64, memory: f64, r: Reads) -> Contact
-    ensures { result ≡ touched c y_h v_h y_s memory r }
+fn touch(c: Constants, h: Flight, y_s: f64, memory: f64, r: Reads) -> Contact
+    ensures { result ≡ touched c h.y_h h.v_h y_s memory r }
 {
     let hammer = c.hammer;
-    let c0 = (y_h - y_s) + c.dt * (v_h - r.a - r.b);
+    let c0 = (h.y_h - y_s) + c.dt * (h.v_h - r.a - r.b);
     let c1 = c.dt / c.two_z;
     let force = contact_force(hammer, hammer.eps * memory, c0, c1);
     let xp = power(positive_part(c0 - c1 * force), hammer.exponent);
@@ -72,22 +82,20 @@ fn touch(c: Constants, y_h: f64, v_h: f64, y_s: f64, memory: f64, r: Reads) -> C
 }
 
 // A string feels the hammer only where the hammer flies at its key.
-fn feel(c: Constants, h: HammerState, key: usize, y_s: f64, memory: f64, r: Reads) -> Contact
-    ensures { result ≡ contact_of c h key y_s memory r }
+#[tactic(auto, unfolding(crate::specs::Points::contact_of))]
+fn feel(
+    c: Constants,
+    hammer: Option<Flight>,
+    key: usize,
+    y_s: f64,
+    memory: f64,
+    r: Reads,
+) -> Contact
+    ensures { result ≡ contact_of c hammer key y_s memory r }
 {
-    match h {
-        HammerState::Resting => Contact { force: 0.0, memory },
-        HammerState::Flying {
-            key_index,
-            y_h,
-            v_h,
-        } => {
-            if key_index == key {
-                touch(c, y_h, v_h, y_s, memory, r)
-            } else {
-                Contact { force: 0.0, memory }
-            }
-        }
+    match hammer {
+        Some(h) if h.key_index == key => touch(c, h, y_s, memory, r),
+        _ => Contact { force: 0.0, memory },
     }
 }
 
@@ -102,43 +110,22 @@ fn inject(c: Constants, damper_r: f64, r: Reads) -> f64
 pub fn strike_string(
     part: &mut [f64],
     c: Constants,
-    h: HammerState,
-    d: StringDesign,
+    hammer: Option<Flight>,
+    s: StringAt,
     damper_r: f64,
-    x: Indices,
-    t: u64,
 ) -> f64
-    requires strung { Strung d part.old }
-    requires indices_at { IndicesAt d t x }
-    ensures { (result ≡ (contact_at c h d (reads_of d t part.old) part.old).force)
-        × (part.new ≡ turned c h damper_r d t part.old) }
+    requires { length part.old ≡ size_of s.design }
+    ensures force { result ≡ (contact_at c hammer s.design (reads_of s.design s.t part.old) part.old).force }
+    ensures cells { part.new ≡ turned c hammer damper_r s.design s.t part.old }
 {
-    let y = string::at_y_s(d);
-    let m = string::at_memory(d);
-    let r = string::read_string(part, d, x, t);
-    let y_s = part[y];
-    let touch = feel(c, h, d.key, y_s, part[m], r);
+    let at = s.design.layout();
+    let r = s.read(part);
+    let y_s = part[at.y_s];
+    let touch = feel(c, hammer, s.design.key, y_s, part[at.memory], r);
     let inject_h = touch.force / c.two_z;
     let inject_d = inject(c, damper_r, r);
-    part[m] = touch.memory;
-    part[y] = y_s + c.dt * (r.a + r.b + inject_h);
-    string::write_string(part, d, x, t, r, inject_h, inject_d);
+    part[at.memory] = touch.memory;
+    part[at.y_s] = y_s + c.dt * (r.a + r.b + inject_h);
+    s.write(part, r, inject_h, inject_d);
     touch.force
-}
-
-pub fn add_force(s: ForceSum, f: f64) -> ForceSum
-    ensures { result ≡ summed s f }
-{
-    let force_sum = s.force_sum + f;
-    if f > 0.0 {
-        ForceSum {
-            force_sum,
-            any_contact: true,
-        }
-    } else {
-        ForceSum {
-            force_sum,
-            any_contact: s.any_contact,
-        }
-    }
 }

@@ -9,10 +9,7 @@ use Rattle.filter.specs.Filter.{stage_out, stage_cells, row_cells}
 use Rattle.filter.specs.Laws.{stage_length}
 use Rattle.filter.specs.Steps.{row_at, out_at, finish_out, finish_cells, row_at_length, finish_length, steps_out, steps_cells}
 use Rattle.string.specs.declared.StringDesign.{StringDesign}
-use Rattle.string.specs.String.{size_of, at_cR, at_filter, filter_size, at_yS, filter_part, read_at, v_in, filtered}
-
-abbrev pub at_row : StringDesign → ℕ
-at_row d = at_filter d + 2
+use Rattle.string.specs.String.{size_of, at_row, at_cR, at_filter, filter_size, at_yS, filter_part, read_at, v_in, filtered}
 
 -- Thiran's stage on what reaches the bridge
 unfoldable pub u_in : StringDesign → ℕ → List Float → Float
@@ -43,10 +40,12 @@ started_length d t p h =
     (stage_length d.filter.thiran_a (read_at (at_cR d) d.nc t p) (part (at_filter d) 2 p) ∙ part_length (at_filter d) 2 p (omega arith)) (omega arith)
     ∙ h
 
-pub rowed_length : (d : StringDesign) (k : ℕ) (u : Float) (p : List Float) → k ≤ 2 * d.ap_count → length p ≡ size_of d → length (rowed_to d k u p) ≡ size_of d
+pub rowed_length : (d : StringDesign) (k : ℕ) (u : Float) (p : List Float) → k ≤ 2 * d.ap_count → length p ≡ size_of d
+    → length (rowed_to d k u p) ≡ size_of d
 rowed_length d k u p hk h = row_at_length d.filter.ap_a u (at_row d) k p (omega arith) ∙ h
 
-pub finished_length : (d : StringDesign) (k : ℕ) (v : Float) (p : List Float) → k ≤ 2 * d.ap_count → length p ≡ size_of d → length (finished d k v p) ≡ size_of d
+pub finished_length : (d : StringDesign) (k : ℕ) (v : Float) (p : List Float) → k ≤ 2 * d.ap_count → length p ≡ size_of d
+    → length (finished d k v p) ≡ size_of d
 unfolding finished
 finished_length d k v p hk h =
     let n : length (filter_part d p) ≡ filter_size d = part_length (at_filter d) (filter_size d) p (omega arith) in
