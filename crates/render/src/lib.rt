@@ -37,8 +37,8 @@ pub struct Stretch {
 fn put(cells: &mut [f64], i: usize, x: f64)
     ensures { cells.new ≡ set cells.old i x }
 {
-    if let Some(cell) = cells.get_mut(i) {
-        *cell = x;
+    if i < cells.len() {
+        cells[i] = x;
     }
 }
 
@@ -199,6 +199,7 @@ pub fn render(
 }
 
 // The piano of silence: zero, false, none.
+#[tactic(auto, unfolding(crate::specs::Render::silent_piano))]
 pub fn silent_piano() -> Piano
     ensures { result ≡ silent_piano }
 {
