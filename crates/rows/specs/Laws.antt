@@ -13,14 +13,14 @@ use Rattle.cells.specs.Numbered.{list_from, and_here}
 use Rattle.filter.specs.Filter.{stage_out, stage_cells, row_out, row_cells}
 use Rattle.filter.specs.Steps.{row_at, out_at, row_at_length, stage_row, next_out, next_row}
 use Rattle.string.specs.declared.StringDesign.{StringDesign}
-use Rattle.string.specs.String.{size_of, v_in, filtered}
+use Rattle.string.specs.String.{size_of, at_row, v_in, filtered}
 use Rattle.string.specs.Laws.{filtered_length}
-use Rattle.string.specs.Table.{design_at}
-use Rattle.string.specs.Steps.{at_row, u_in, started, out_to, rowed_to, finished_out, finished, started_length, finished_length, steps_v_in, steps_filtered}
+use Rattle.string.specs.Table.{past_design, design_at, list_of}
+use Rattle.string.specs.Steps.{u_in, started, out_to, rowed_to, finished_out, finished, started_length, finished_length, steps_v_in, steps_filtered}
 use Rattle.rows.specs.declared.Rows.{Rows}
 use Rattle.rows.specs.Rows.{string_start, size_at, cells_in, MovedOn, Few, Laid, Started, Staged, InRows, Finished, Filtered, FilteredTo}
 use Rattle.rows.specs.declared.Next.{Next}
-use Rattle.strings.specs.Strings.{AllFit, Indexed, filtered_one, filtered_all, v_in_one, v_ins}
+use Rattle.strings.specs.Strings.{AllFit, cells_of, filtered_one, filtered_all, v_in_one, v_ins}
 
 -- ---- one stage of one string, whose cells start at o: it is lent its two cells by their place among all
 
@@ -101,10 +101,6 @@ module _ (f : ℕ → StringDesign) where
         let n : at + k - at ≡ size_at f (i + l) = omega arith in
         moved_turn (string_start f) (size_at f) next r ys (splice at (at + k - at) ys w) whole
         (ap length hy ∙ keeps (take (at + k - at) (drop at w)) on_length) (hy ∙ ap (g l) lent_is) (rw (n, ha))
-
-  -- a pass leaves them as many cells
-  pub few_still : {i m : ℕ} {w₀ w : List Float} → Few f i m w₀ → length w ≡ length w₀ → Few f i m w
-  few_still r e = let room = r.room in record { few = r.few; known = r.known; fit = r.fit; room = omega (arith, room, e) }
 
   -- another stage of each row
   pub rows_turn : (i m s : ℕ) (v₀ v v' w₀ w w' : List Float) → string_start f (i + m) ≤ length w₀
@@ -331,23 +327,30 @@ module _ (f : ℕ → StringDesign) where
     stored_all nan (λ k. v_in (f k) t (cells_in f k w₀)) o₀ o n r.outputs long ∙ ap (λ (l : List Float). l ++ drop n o₀) (sym (collect_own size_of f (v_in_one t) w₀ n)),
   )
 
--- what the tables' strings meet, fewer of them meet
-module _ {lengths : List ℕ} {coefficients : List Float} where
-  few_of : {i m n : ℕ} {w : List Float} → AllFit lengths coefficients n → string_start (design_at lengths coefficients) n ≤ length w → i + m ≤ n → m ≤ 4
-      → Few (design_at lengths coefficients) i m w
-  few_of {i} {m} {n} ok room h few =
-      let few' = ok.few in
+module _ {designs : List StringDesign} where
+  -- a pass leaves them as many cells
+  pub few_still : {i m : ℕ} {w₀ w : List Float} → Few designs i m w₀ → length w ≡ length w₀ → Few designs i m w
+  few_still r e = let room = r.room in record { few = r.few; known = r.known; fit = r.fit; room = omega (arith, room, e) }
+
+  -- all strings' cells end where a string past the last would start
+  pub all_room : {w : List Float} → cells_of designs ≤ length w → string_start (design_at designs) (length designs) ≤ length w
+  all_room {w} h = subst (λ (ds : List StringDesign). cells_of ds ≤ length w) (sym (list_of designs past_design)) h
+
+  -- what is asked of the next m strings
+  pub next_few : {i m : ℕ} {w : List Float} → AllFit designs → cells_of designs ≤ length w → i + m ≤ length designs → m ≤ 4 → Few designs i m w
+  next_few {i} {m} {w} ok room h few =
+      let f = design_at designs in
+      let whole = all_room {w} room in
       record {
         few = few;
-        known = omega (arith, few');
+        known = h;
         fit = λ k q. ok.each k (omega arith);
-        room = le_trans (starts_rise (string_start (design_at lengths coefficients)) (size_at (design_at lengths coefficients)) (start_next size_of (design_at lengths coefficients)) (i + m) n h) room;
+        room = le_trans (starts_rise (string_start f) (size_at f) (start_next size_of f) (i + m) (length designs) h) whole;
       }
 
-  -- what is asked of the next m of n strings
-  pub next_few : {i m n t at : ℕ} {indices : List ℕ} {w : List Float} (o : List Float) → AllFit lengths coefficients n → Indexed lengths coefficients indices n t
-      → string_start (design_at lengths coefficients) n ≤ length w → n ≤ length o → at ≡ string_start (design_at lengths coefficients) i → i + m ≤ n → m ≤ 4
-      → Few (design_at lengths coefficients) i m w
-      × (Indexed lengths coefficients indices (i + m) t × ((at ≡ string_start (design_at lengths coefficients) i) × (i + m ≤ length o)))
-  next_few o ok at_t room long start below few =
-      (few_of ok room below few, (record { long = at_t.long; each = λ k q. at_t.each k (omega arith) }, (start, le_trans below long)))
+  -- all strings are filtered
+  pub filtered_whole : {t at : ℕ} {w₀ w o₀ o : List Float} → FilteredBelow (design_at designs) (length designs) t w₀ w o₀ o at → length designs ≤ length o₀
+      → (w ≡ filtered_all designs t w₀) × (o ≡ v_ins designs t w₀ ++ drop (length designs) o₀)
+  filtered_whole {t} {at} {w₀} {w} {o₀} {o} r long =
+      subst (λ (ds : List StringDesign). (w ≡ filtered_all ds t w₀) × (o ≡ v_ins ds t w₀ ++ drop (length designs) o₀))
+      (list_of designs past_design) (below_all (design_at designs) r long)

@@ -18,14 +18,14 @@ pub size-requires : goal.size-requires
 size-requires c =
     let args = c.args in
     let room = c.requires.few.room in
-    let fits = string_fits (design_at args.lengths.now args.coefficients.now) args.i (args.i + 1) (omega arith) c.design_at-d.result c.design_at-d.ensures in
+    let fits = string_fits (design_at args.designs.now) args.i (args.i + 1) (omega arith) c.design_at-d.result c.design_at-d.ensures in
     omega (arith, fits, room, c.requires.first_value)
 
 pub overflow_add-e : goal.overflow_add-e
 overflow_add-e c =
     let within : c.args.first + c.size.result ≤ length c.args.part.now = let args = c.args in
     let room = c.requires.few.room in
-    let fits = string_fits (design_at args.lengths.now args.coefficients.now) args.i (args.i + 1) (omega arith) c.design_at-d.result c.design_at-d.ensures in
+    let fits = string_fits (design_at args.designs.now) args.i (args.i + 1) (omega arith) c.design_at-d.result c.design_at-d.ensures in
     omega (arith, fits, room, c.requires.first_value, c.size.ensures) in
     omega (arith, within)
 
@@ -38,7 +38,7 @@ pub offset_bounds-part-first : goal.offset_bounds-part-first
 offset_bounds-part-first c =
     let within : c.args.first + c.size.result ≤ length c.args.part.now = let args = c.args in
     let room = c.requires.few.room in
-    let fits = string_fits (design_at args.lengths.now args.coefficients.now) args.i (args.i + 1) (omega arith) c.design_at-d.result c.design_at-d.ensures in
+    let fits = string_fits (design_at args.designs.now) args.i (args.i + 1) (omega arith) c.design_at-d.result c.design_at-d.ensures in
     omega (arith, fits, room, c.requires.first_value, c.size.ensures) in
     omega (arith, within)
 
@@ -46,7 +46,7 @@ pub slice_bounds-filter_string-count : goal.slice_bounds-filter_string-count
 slice_bounds-filter_string-count c =
     let within : c.args.first + c.size.result ≤ length c.args.part.now = let args = c.args in
     let room = c.requires.few.room in
-    let fits = string_fits (design_at args.lengths.now args.coefficients.now) args.i (args.i + 1) (omega arith) c.design_at-d.result c.design_at-d.ensures in
+    let fits = string_fits (design_at args.designs.now) args.i (args.i + 1) (omega arith) c.design_at-d.result c.design_at-d.ensures in
     omega (arith, fits, room, c.requires.first_value, c.size.ensures) in
     omega (arith, within)
 
@@ -54,7 +54,7 @@ pub slice_bounds-filter_string-start : goal.slice_bounds-filter_string-start
 slice_bounds-filter_string-start c =
     let within : c.args.first + c.size.result ≤ length c.args.part.now = let args = c.args in
     let room = c.requires.few.room in
-    let fits = string_fits (design_at args.lengths.now args.coefficients.now) args.i (args.i + 1) (omega arith) c.design_at-d.result c.design_at-d.ensures in
+    let fits = string_fits (design_at args.designs.now) args.i (args.i + 1) (omega arith) c.design_at-d.result c.design_at-d.ensures in
     omega (arith, fits, room, c.requires.first_value, c.size.ensures) in
     omega (arith, within)
 
@@ -62,7 +62,7 @@ pub slice_bounds-filter_string-end : goal.slice_bounds-filter_string-end
 slice_bounds-filter_string-end c =
     let within : c.args.first + c.size.result ≤ length c.args.part.now = let args = c.args in
     let room = c.requires.few.room in
-    let fits = string_fits (design_at args.lengths.now args.coefficients.now) args.i (args.i + 1) (omega arith) c.design_at-d.result c.design_at-d.ensures in
+    let fits = string_fits (design_at args.designs.now) args.i (args.i + 1) (omega arith) c.design_at-d.result c.design_at-d.ensures in
     omega (arith, fits, room, c.requires.first_value, c.size.ensures) in
     omega (arith, within)
 
@@ -70,7 +70,7 @@ pub filter_string-requires : goal.filter_string-requires
 filter_string-requires c =
     let within : c.args.first + c.size.result ≤ length c.args.part.now = let args = c.args in
     let room = c.requires.few.room in
-    let fits = string_fits (design_at args.lengths.now args.coefficients.now) args.i (args.i + 1) (omega arith) c.design_at-d.result c.design_at-d.ensures in
+    let fits = string_fits (design_at args.designs.now) args.i (args.i + 1) (omega arith) c.design_at-d.result c.design_at-d.ensures in
     omega (arith, fits, room, c.requires.first_value, c.size.ensures) in
     let args = c.args in
     let is = c.design_at-d.ensures in
@@ -86,5 +86,5 @@ pub returns : goal.returns
 returns c =
     let args = c.args in
     let is = c.design_at-d.ensures in
-    one_is (design_at args.lengths.now args.coefficients.now) args.i args.t args.part.now args.v_in.now args.first c.size.result c.filter_string.result c.filter_string.new.part
+    one_is (design_at args.designs.now) args.i args.t args.part.now args.v_in.now args.first c.size.result c.filter_string.result c.filter_string.new.part
     c.requires.few.room (omega (arith, c.requires.i_in_bounds)) c.requires.first_value (rw is at c.size.ensures) (rw is at c.filter_string.ensures.0) (rw is at c.filter_string.ensures.1)

@@ -8,7 +8,7 @@ use Rattle.rows.proofs.filter_strings.Goals as goal
 pub loop-i-init : goal.loop-i-init
 loop-i-init c =
     let args = c.args in
-    (omega arith, below_none (design_at args.lengths.now args.coefficients.now) args.t args.part.now args.v_in.now)
+    (omega arith, below_none (design_at args.designs.now) args.t args.part.now args.v_in.now)
 
 pub filter_next-next-requires : goal.filter_next-next-requires
 filter_next-next-requires c =
@@ -33,7 +33,7 @@ loop-i-preserved c =
     let args = c.args in
     let next = c.filter_next-next.ensures in (
       omega (arith, next.next, next.below),
-      below_turn (design_at args.lengths.now args.coefficients.now) c.loop-i.invariant.1 next c.requires.n_in_bounds c.requires.n_in_bounds_2,
+      below_turn (design_at args.designs.now) c.loop-i.invariant.1 next c.requires.n_in_bounds c.requires.n_in_bounds_2,
     )
 
 pub shape_of-part : goal.shape_of-part
@@ -46,4 +46,4 @@ pub returns : goal.returns
 returns c =
     let args = c.args in
     let all : c.loop-i.i ≡ args.n = omega arith in
-    below_all (design_at args.lengths.now args.coefficients.now) (rw all at c.loop-i.invariant.1) c.requires.n_in_bounds_2
+    below_all (design_at args.designs.now) (rw all at c.loop-i.invariant.1) c.requires.n_in_bounds_2

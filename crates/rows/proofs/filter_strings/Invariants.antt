@@ -6,7 +6,7 @@ use Rattle.rows.proofs.filter_strings.Given as goal
 
 abbrev pub invariant-loop-i : goal.invariant-loop-i
 invariant-loop-i l =
-    (l.i ≤ l.n) × FilteredBelow (design_at l.lengths l.coefficients) l.i l.t l.initial.part l.part l.initial.v_in l.v_in l.at
+    (l.i ≤ l.n) × FilteredBelow (design_at l.designs) l.i l.t l.initial.part l.part l.initial.v_in l.v_in l.at
 
 abbrev pub decreases-loop-i : goal.decreases-loop-i
 decreases-loop-i l = l.n - l.i

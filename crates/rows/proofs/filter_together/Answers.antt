@@ -27,7 +27,7 @@ run_rows-requires c =
     let args = c.args in
     let started = c.start_strings-v.ensures in
     record {
-      few = few_still (design_at args.lengths.now args.coefficients.now) c.requires.few started.cells.same;
+      few = few_still (design_at args.designs.now) c.requires.few started.cells.same;
       laid = c.rows_of-rows.ensures;
       v_len = started.long;
     }
@@ -38,7 +38,7 @@ finish_strings-requires c =
     let started = c.start_strings-v.ensures in
     let rowed = c.run_rows.ensures in
     record {
-      few = few_still (design_at args.lengths.now args.coefficients.now) c.requires.few (rowed.cells.same ∙ started.cells.same);
+      few = few_still (design_at args.designs.now) c.requires.few (rowed.cells.same ∙ started.cells.same);
       laid = c.rows_of-rows.ensures;
       first_value = c.requires.first_value;
       m_in_bounds = c.requires.m_in_bounds;
@@ -47,5 +47,5 @@ finish_strings-requires c =
 pub returns : goal.returns
 returns c =
     let args = c.args in
-    filtered_is (design_at args.lengths.now args.coefficients.now) args.i args.m args.t c.rows_of-rows.result args.part.now _ _ _ _ _
+    filtered_is (design_at args.designs.now) args.i args.m args.t c.rows_of-rows.result args.part.now _ _ _ _ _
     args.v_in.now _ _ c.requires.few.room c.rows_of-rows.ensures c.start_strings-v.ensures c.run_rows.ensures c.finish_strings.ensures

@@ -17,7 +17,7 @@ overflow_mul-k c =
 pub loop-l-init : goal.loop-l-init
 loop-l-init c =
     let args = c.args in
-    let f = design_at args.lengths.now args.coefficients.now in
+    let f = design_at args.designs.now in
     let none : args.i ≡ args.i + 0 = omega arith in (
       omega arith,
       record {
@@ -43,7 +43,7 @@ pub size-requires : goal.size-requires
 size-requires c =
     let args = c.args in
     let few = c.requires.few in
-    let fits = string_fits (design_at args.lengths.now args.coefficients.now) (args.i + c.loop-l.l) (args.i + args.m) (omega arith) c.design_at-d.result c.design_at-d.ensures in
+    let fits = string_fits (design_at args.designs.now) (args.i + c.loop-l.l) (args.i + args.m) (omega arith) c.design_at-d.result c.design_at-d.ensures in
     let room = few.room in
     let long = c.loop-l.invariant.1.cells.same in
     let end = c.loop-l.invariant.1.end in
@@ -51,7 +51,7 @@ size-requires c =
 
 pub overflow_add-e : goal.overflow_add-e
 overflow_add-e c =
-    let within : (c.loop-l.at + c.size.result ≤ length c.loop-l.part) × (length c.loop-l.part ≡ length c.args.part.now) = let f = design_at c.args.lengths.now c.args.coefficients.now in
+    let within : (c.loop-l.at + c.size.result ≤ length c.loop-l.part) × (length c.loop-l.part ≡ length c.args.part.now) = let f = design_at c.args.designs.now in
     let size = rw c.design_at-d.ensures at c.size.ensures in
     let done = c.loop-l.invariant.1 in
     (on_fits f done.cells c.requires.few.room c.loop-l-test.true c.loop-l.at c.size.result done.end size, done.cells.same) in
@@ -59,7 +59,7 @@ overflow_add-e c =
 
 pub offset_bounds-part-at : goal.offset_bounds-part-at
 offset_bounds-part-at c =
-    let within : (c.loop-l.at + c.size.result ≤ length c.loop-l.part) × (length c.loop-l.part ≡ length c.args.part.now) = let f = design_at c.args.lengths.now c.args.coefficients.now in
+    let within : (c.loop-l.at + c.size.result ≤ length c.loop-l.part) × (length c.loop-l.part ≡ length c.args.part.now) = let f = design_at c.args.designs.now in
     let size = rw c.design_at-d.ensures at c.size.ensures in
     let done = c.loop-l.invariant.1 in
     (on_fits f done.cells c.requires.few.room c.loop-l-test.true c.loop-l.at c.size.result done.end size, done.cells.same) in
@@ -67,7 +67,7 @@ offset_bounds-part-at c =
 
 pub slice_bounds-finish_filter-count : goal.slice_bounds-finish_filter-count
 slice_bounds-finish_filter-count c =
-    let within : (c.loop-l.at + c.size.result ≤ length c.loop-l.part) × (length c.loop-l.part ≡ length c.args.part.now) = let f = design_at c.args.lengths.now c.args.coefficients.now in
+    let within : (c.loop-l.at + c.size.result ≤ length c.loop-l.part) × (length c.loop-l.part ≡ length c.args.part.now) = let f = design_at c.args.designs.now in
     let size = rw c.design_at-d.ensures at c.size.ensures in
     let done = c.loop-l.invariant.1 in
     (on_fits f done.cells c.requires.few.room c.loop-l-test.true c.loop-l.at c.size.result done.end size, done.cells.same) in
@@ -75,7 +75,7 @@ slice_bounds-finish_filter-count c =
 
 pub slice_bounds-finish_filter-start : goal.slice_bounds-finish_filter-start
 slice_bounds-finish_filter-start c =
-    let within : (c.loop-l.at + c.size.result ≤ length c.loop-l.part) × (length c.loop-l.part ≡ length c.args.part.now) = let f = design_at c.args.lengths.now c.args.coefficients.now in
+    let within : (c.loop-l.at + c.size.result ≤ length c.loop-l.part) × (length c.loop-l.part ≡ length c.args.part.now) = let f = design_at c.args.designs.now in
     let size = rw c.design_at-d.ensures at c.size.ensures in
     let done = c.loop-l.invariant.1 in
     (on_fits f done.cells c.requires.few.room c.loop-l-test.true c.loop-l.at c.size.result done.end size, done.cells.same) in
@@ -83,7 +83,7 @@ slice_bounds-finish_filter-start c =
 
 pub slice_bounds-finish_filter-end : goal.slice_bounds-finish_filter-end
 slice_bounds-finish_filter-end c =
-    let within : (c.loop-l.at + c.size.result ≤ length c.loop-l.part) × (length c.loop-l.part ≡ length c.args.part.now) = let f = design_at c.args.lengths.now c.args.coefficients.now in
+    let within : (c.loop-l.at + c.size.result ≤ length c.loop-l.part) × (length c.loop-l.part ≡ length c.args.part.now) = let f = design_at c.args.designs.now in
     let size = rw c.design_at-d.ensures at c.size.ensures in
     let done = c.loop-l.invariant.1 in
     (on_fits f done.cells c.requires.few.room c.loop-l-test.true c.loop-l.at c.size.result done.end size, done.cells.same) in
@@ -105,7 +105,7 @@ pub finish_filter-requires : goal.finish_filter-requires
 finish_filter-requires c =
     let args = c.args in
     let few = c.requires.few in
-    let f = design_at args.lengths.now args.coefficients.now in
+    let f = design_at args.designs.now in
     let taken = c.loop-l-test.true in
     let is = c.design_at-d.ensures in
     let enough = c.requires.laid.enough c.loop-l.l taken in
@@ -147,7 +147,7 @@ pub loop-l-preserved : goal.loop-l-preserved
 loop-l-preserved c =
     let args = c.args in
     let few = c.requires.few in
-    let f = design_at args.lengths.now args.coefficients.now in
+    let f = design_at args.designs.now in
     let taken = c.loop-l-test.true in
     let is = c.design_at-d.ensures in
     let enough = c.requires.laid.enough c.loop-l.l taken in

@@ -6,7 +6,7 @@ use Rattle.rows.proofs.finish_strings.Given as goal
 
 abbrev pub invariant-loop-l : goal.invariant-loop-l
 invariant-loop-l l =
-    (l.l ≤ l.m) × Finished (design_at l.lengths l.coefficients) l.i l.l l.k l.v l.initial.part l.part l.initial.v_in l.v_in l.at
+    (l.l ≤ l.m) × Finished (design_at l.designs) l.i l.l l.k l.v l.initial.part l.part l.initial.v_in l.v_in l.at
 
 abbrev pub decreases-loop-l : goal.decreases-loop-l
 decreases-loop-l l = l.m - l.l

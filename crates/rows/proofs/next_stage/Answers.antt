@@ -12,7 +12,7 @@ use Rattle.rows.proofs.next_stage.Goals as goal
 pub loop-l-init : goal.loop-l-init
 loop-l-init c =
     let args = c.args in
-    let f = design_at args.lengths.now args.coefficients.now in
+    let f = design_at args.designs.now in
     (omega arith, record { long = refl; cells = on_none f args.i _ args.part.now; values = λ l h. let z : ⊥ = omega arith in absurd z }, (λ j h. refl))
 
 pub offset_bounds-starts-l : goal.offset_bounds-starts-l
@@ -28,7 +28,7 @@ bounds-starts-l c =
 pub overflow_mul-z : goal.overflow_mul-z
 overflow_mul-z c =
     let within : (get_or c.args.rows.starts c.loop-l.l 0 + 2 * c.args.s + 2 ≤ length c.loop-l.part) × (length c.loop-l.part ≡ length c.args.part.now) = let args = c.args in
-    let f = design_at args.lengths.now args.coefficients.now in
+    let f = design_at args.designs.now in
     let taken = c.loop-l-test.true in
     let starts = c.requires.laid.start c.loop-l.l taken in
     let enough = c.requires.laid.enough c.loop-l.l taken in
@@ -39,7 +39,7 @@ overflow_mul-z c =
 pub overflow_add-z : goal.overflow_add-z
 overflow_add-z c =
     let within : (get_or c.args.rows.starts c.loop-l.l 0 + 2 * c.args.s + 2 ≤ length c.loop-l.part) × (length c.loop-l.part ≡ length c.args.part.now) = let args = c.args in
-    let f = design_at args.lengths.now args.coefficients.now in
+    let f = design_at args.designs.now in
     let taken = c.loop-l-test.true in
     let starts = c.requires.laid.start c.loop-l.l taken in
     let enough = c.requires.laid.enough c.loop-l.l taken in
@@ -50,7 +50,7 @@ overflow_add-z c =
 pub overflow_add-e : goal.overflow_add-e
 overflow_add-e c =
     let within : (get_or c.args.rows.starts c.loop-l.l 0 + 2 * c.args.s + 2 ≤ length c.loop-l.part) × (length c.loop-l.part ≡ length c.args.part.now) = let args = c.args in
-    let f = design_at args.lengths.now args.coefficients.now in
+    let f = design_at args.designs.now in
     let taken = c.loop-l-test.true in
     let starts = c.requires.laid.start c.loop-l.l taken in
     let enough = c.requires.laid.enough c.loop-l.l taken in
@@ -61,7 +61,7 @@ overflow_add-e c =
 pub offset_bounds-part-z : goal.offset_bounds-part-z
 offset_bounds-part-z c =
     let within : (get_or c.args.rows.starts c.loop-l.l 0 + 2 * c.args.s + 2 ≤ length c.loop-l.part) × (length c.loop-l.part ≡ length c.args.part.now) = let args = c.args in
-    let f = design_at args.lengths.now args.coefficients.now in
+    let f = design_at args.designs.now in
     let taken = c.loop-l-test.true in
     let starts = c.requires.laid.start c.loop-l.l taken in
     let enough = c.requires.laid.enough c.loop-l.l taken in
@@ -72,7 +72,7 @@ offset_bounds-part-z c =
 pub slice_bounds-allpass-count : goal.slice_bounds-allpass-count
 slice_bounds-allpass-count c =
     let within : (get_or c.args.rows.starts c.loop-l.l 0 + 2 * c.args.s + 2 ≤ length c.loop-l.part) × (length c.loop-l.part ≡ length c.args.part.now) = let args = c.args in
-    let f = design_at args.lengths.now args.coefficients.now in
+    let f = design_at args.designs.now in
     let taken = c.loop-l-test.true in
     let starts = c.requires.laid.start c.loop-l.l taken in
     let enough = c.requires.laid.enough c.loop-l.l taken in
@@ -83,7 +83,7 @@ slice_bounds-allpass-count c =
 pub slice_bounds-allpass-start : goal.slice_bounds-allpass-start
 slice_bounds-allpass-start c =
     let within : (get_or c.args.rows.starts c.loop-l.l 0 + 2 * c.args.s + 2 ≤ length c.loop-l.part) × (length c.loop-l.part ≡ length c.args.part.now) = let args = c.args in
-    let f = design_at args.lengths.now args.coefficients.now in
+    let f = design_at args.designs.now in
     let taken = c.loop-l-test.true in
     let starts = c.requires.laid.start c.loop-l.l taken in
     let enough = c.requires.laid.enough c.loop-l.l taken in
@@ -94,7 +94,7 @@ slice_bounds-allpass-start c =
 pub slice_bounds-allpass-end : goal.slice_bounds-allpass-end
 slice_bounds-allpass-end c =
     let within : (get_or c.args.rows.starts c.loop-l.l 0 + 2 * c.args.s + 2 ≤ length c.loop-l.part) × (length c.loop-l.part ≡ length c.args.part.now) = let args = c.args in
-    let f = design_at args.lengths.now args.coefficients.now in
+    let f = design_at args.designs.now in
     let taken = c.loop-l-test.true in
     let starts = c.requires.laid.start c.loop-l.l taken in
     let enough = c.requires.laid.enough c.loop-l.l taken in
@@ -144,7 +144,7 @@ pub loop-l-preserved : goal.loop-l-preserved
 loop-l-preserved c =
     let args = c.args in
     let few = c.requires.few in
-    let f = design_at args.lengths.now args.coefficients.now in
+    let f = design_at args.designs.now in
     let taken = c.loop-l-test.true in
     let laid = c.requires.laid in
     let starts = laid.start c.loop-l.l taken in

@@ -9,7 +9,7 @@ use Rattle.rows.proofs.next_stage.Given as goal
 
 abbrev pub invariant-loop-l : goal.invariant-loop-l
 invariant-loop-l l =
-    (l.l ≤ l.m) × Staged (design_at l.lengths l.coefficients) l.i l.l l.s l.initial.v l.v l.initial.part l.part × ((j : ℕ) → l.l ≤ j → get_or l.v j nan ≡ get_or l.initial.v j nan)
+    (l.l ≤ l.m) × Staged (design_at l.designs) l.i l.l l.s l.initial.v l.v l.initial.part l.part × ((j : ℕ) → l.l ≤ j → get_or l.v j nan ≡ get_or l.initial.v j nan)
 
 abbrev pub decreases-loop-l : goal.decreases-loop-l
 decreases-loop-l l = l.m - l.l

@@ -13,7 +13,7 @@ use Rattle.rows.proofs.rows_of.Goals as goal
 pub loop-l-init : goal.loop-l-init
 loop-l-init c =
     let args = c.args in
-    let f = design_at args.lengths.now args.coefficients.now in
+    let f = design_at args.designs.now in
     let none : args.i ≡ args.i + 0 = omega arith in
     (omega arith, c.requires.first_value ∙ ap (λ (k : ℕ). string_start f k) none, laid_none f args.i _ (omega arith), refl, refl)
 
@@ -26,14 +26,14 @@ design_at-d-requires c = omega arith
 pub at_row-requires : goal.at_row-requires
 at_row-requires c =
     let sized : c.loop-l.at + size_of c.design_at-d.result < 2 ^ 64 = let args = c.args in
-    let fits = string_fits (design_at args.lengths.now args.coefficients.now) (args.i + c.loop-l.l) (args.i + args.m) (omega arith) c.design_at-d.result c.design_at-d.ensures in
+    let fits = string_fits (design_at args.designs.now) (args.i + c.loop-l.l) (args.i + args.m) (omega arith) c.design_at-d.result c.design_at-d.ensures in
     omega (arith, fits, c.requires.m_bound_2, c.loop-l.invariant.1) in
     omega (arith, sized)
 
 pub overflow_add-starts : goal.overflow_add-starts
 overflow_add-starts c =
     let sized : c.loop-l.at + size_of c.design_at-d.result < 2 ^ 64 = let args = c.args in
-    let fits = string_fits (design_at args.lengths.now args.coefficients.now) (args.i + c.loop-l.l) (args.i + args.m) (omega arith) c.design_at-d.result c.design_at-d.ensures in
+    let fits = string_fits (design_at args.designs.now) (args.i + c.loop-l.l) (args.i + args.m) (omega arith) c.design_at-d.result c.design_at-d.ensures in
     omega (arith, fits, c.requires.m_bound_2, c.loop-l.invariant.1) in
     omega (arith, sized, c.at_row.ensures)
 
@@ -55,14 +55,14 @@ less-stages-requires c = omega arith
 pub size-at-requires : goal.size-at-requires
 size-at-requires c =
     let sized : c.loop-l.at + size_of c.design_at-d.result < 2 ^ 64 = let args = c.args in
-    let fits = string_fits (design_at args.lengths.now args.coefficients.now) (args.i + c.loop-l.l) (args.i + args.m) (omega arith) c.design_at-d.result c.design_at-d.ensures in
+    let fits = string_fits (design_at args.designs.now) (args.i + c.loop-l.l) (args.i + args.m) (omega arith) c.design_at-d.result c.design_at-d.ensures in
     omega (arith, fits, c.requires.m_bound_2, c.loop-l.invariant.1) in
     omega (arith, sized)
 
 pub overflow_add-at : goal.overflow_add-at
 overflow_add-at c =
     let sized : c.loop-l.at + size_of c.design_at-d.result < 2 ^ 64 = let args = c.args in
-    let fits = string_fits (design_at args.lengths.now args.coefficients.now) (args.i + c.loop-l.l) (args.i + args.m) (omega arith) c.design_at-d.result c.design_at-d.ensures in
+    let fits = string_fits (design_at args.designs.now) (args.i + c.loop-l.l) (args.i + args.m) (omega arith) c.design_at-d.result c.design_at-d.ensures in
     omega (arith, fits, c.requires.m_bound_2, c.loop-l.invariant.1) in
     omega (arith, sized, c.size-at.ensures)
 
@@ -75,7 +75,7 @@ loop-l-smaller c = omega arith
 pub loop-l-preserved : goal.loop-l-preserved
 loop-l-preserved c =
     let args = c.args in
-    let f = design_at args.lengths.now args.coefficients.now in
+    let f = design_at args.designs.now in
     let is = c.design_at-d.ensures in
     let l = c.loop-l.l in (
       omega arith,

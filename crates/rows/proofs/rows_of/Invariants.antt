@@ -8,7 +8,7 @@ use Rattle.rows.proofs.rows_of.Given as goal
 
 abbrev pub invariant-loop-l : goal.invariant-loop-l
 invariant-loop-l l =
-    (l.l ≤ l.m) × (l.at ≡ string_start (design_at l.lengths l.coefficients) (l.i + l.l)) × Laid (design_at l.lengths l.coefficients) l.i l.l (record { starts = l.starts; ap_a = l.ap_a; stages = l.stages })
+    (l.l ≤ l.m) × (l.at ≡ string_start (design_at l.designs) (l.i + l.l)) × Laid (design_at l.designs) l.i l.l (record { starts = l.starts; ap_a = l.ap_a; stages = l.stages })
     × (length l.starts ≡ 4) × (length l.ap_a ≡ 4)
 
 abbrev pub decreases-loop-l : goal.decreases-loop-l

@@ -8,7 +8,7 @@ use Rattle.rows.proofs.run_rows.Goals as goal
 pub loop-s-init : goal.loop-s-init
 loop-s-init c =
     let args = c.args in
-    (omega arith, refl, rows_none (design_at args.lengths.now args.coefficients.now) args.i args.m args.v.now args.part.now c.requires.few.room)
+    (omega arith, refl, rows_none (design_at args.designs.now) args.i args.m args.v.now args.part.now c.requires.few.room)
 
 pub next_stage-requires : goal.next_stage-requires
 next_stage-requires c =
@@ -16,7 +16,7 @@ next_stage-requires c =
     let few = c.requires.few in
     let r = c.loop-s.invariant.2 in
     record {
-      few = few_still (design_at args.lengths.now args.coefficients.now) few r.cells.same;
+      few = few_still (design_at args.designs.now) few r.cells.same;
       laid = c.requires.laid;
       s_lt_stages = (omega arith, r.long ∙ c.requires.v_len);
     }
@@ -36,7 +36,7 @@ loop-s-preserved c =
     let taken = c.loop-s-test.true in (
       omega arith,
       c.loop-s.invariant.1,
-      rows_turn (design_at args.lengths.now args.coefficients.now) args.i args.m c.loop-s.s args.v.now c.loop-s.v _ args.part.now c.loop-s.part _ few.room
+      rows_turn (design_at args.designs.now) args.i args.m c.loop-s.s args.v.now c.loop-s.v _ args.part.now c.loop-s.part _ few.room
           (λ l h. let n = laid.enough l h in let e = c.loop-s.invariant.1 in omega (arith, n, e, taken)) r c.next_stage.ensures,
     )
 

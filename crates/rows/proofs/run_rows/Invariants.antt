@@ -7,7 +7,7 @@ use Rattle.rows.proofs.run_rows.Given as goal
 
 abbrev pub invariant-loop-s : goal.invariant-loop-s
 invariant-loop-s l =
-    (l.s ≤ l.s-end) × (l.s-end ≡ l.rows.stages) × InRows (design_at l.lengths l.coefficients) l.i l.m l.s l.initial.v l.v l.initial.part l.part
+    (l.s ≤ l.s-end) × (l.s-end ≡ l.rows.stages) × InRows (design_at l.designs) l.i l.m l.s l.initial.v l.v l.initial.part l.part
 
 abbrev pub decreases-loop-s : goal.decreases-loop-s
 decreases-loop-s l = l.s-end - l.s

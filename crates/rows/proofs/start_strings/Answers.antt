@@ -13,7 +13,7 @@ use Rattle.rows.proofs.start_strings.Goals as goal
 pub loop-l-init : goal.loop-l-init
 loop-l-init c =
     let args = c.args in
-    let f = design_at args.lengths.now args.coefficients.now in
+    let f = design_at args.designs.now in
     let none : args.i ≡ args.i + 0 = omega arith in (
       omega arith,
       c.requires.first_value ∙ ap (λ (k : ℕ). string_start f k) none,
@@ -36,14 +36,14 @@ pub size-requires : goal.size-requires
 size-requires c =
     let args = c.args in
     let few = c.requires.few in
-    let fits = string_fits (design_at args.lengths.now args.coefficients.now) (args.i + c.loop-l.l) (args.i + args.m) (omega arith) c.design_at-d.result c.design_at-d.ensures in
+    let fits = string_fits (design_at args.designs.now) (args.i + c.loop-l.l) (args.i + args.m) (omega arith) c.design_at-d.result c.design_at-d.ensures in
     let room = few.room in
     let long = c.loop-l.invariant.2.cells.same in
     omega (arith, fits, room, long, c.loop-l.invariant.1)
 
 pub overflow_add-e : goal.overflow_add-e
 overflow_add-e c =
-    let within : (c.loop-l.at + c.size.result ≤ length c.loop-l.part) × (length c.loop-l.part ≡ length c.args.part.now) = let f = design_at c.args.lengths.now c.args.coefficients.now in
+    let within : (c.loop-l.at + c.size.result ≤ length c.loop-l.part) × (length c.loop-l.part ≡ length c.args.part.now) = let f = design_at c.args.designs.now in
     let size = rw c.design_at-d.ensures at c.size.ensures in
     (on_fits f c.loop-l.invariant.2.cells c.requires.few.room c.loop-l-test.true c.loop-l.at c.size.result c.loop-l.invariant.1 size, c.loop-l.invariant.2.cells.same) in
     omega (arith, within)
@@ -62,28 +62,28 @@ indices_at-x-requires c =
 
 pub offset_bounds-part-at : goal.offset_bounds-part-at
 offset_bounds-part-at c =
-    let within : (c.loop-l.at + c.size.result ≤ length c.loop-l.part) × (length c.loop-l.part ≡ length c.args.part.now) = let f = design_at c.args.lengths.now c.args.coefficients.now in
+    let within : (c.loop-l.at + c.size.result ≤ length c.loop-l.part) × (length c.loop-l.part ≡ length c.args.part.now) = let f = design_at c.args.designs.now in
     let size = rw c.design_at-d.ensures at c.size.ensures in
     (on_fits f c.loop-l.invariant.2.cells c.requires.few.room c.loop-l-test.true c.loop-l.at c.size.result c.loop-l.invariant.1 size, c.loop-l.invariant.2.cells.same) in
     omega (arith, within)
 
 pub slice_bounds-start_filter-count : goal.slice_bounds-start_filter-count
 slice_bounds-start_filter-count c =
-    let within : (c.loop-l.at + c.size.result ≤ length c.loop-l.part) × (length c.loop-l.part ≡ length c.args.part.now) = let f = design_at c.args.lengths.now c.args.coefficients.now in
+    let within : (c.loop-l.at + c.size.result ≤ length c.loop-l.part) × (length c.loop-l.part ≡ length c.args.part.now) = let f = design_at c.args.designs.now in
     let size = rw c.design_at-d.ensures at c.size.ensures in
     (on_fits f c.loop-l.invariant.2.cells c.requires.few.room c.loop-l-test.true c.loop-l.at c.size.result c.loop-l.invariant.1 size, c.loop-l.invariant.2.cells.same) in
     omega (arith, within)
 
 pub slice_bounds-start_filter-start : goal.slice_bounds-start_filter-start
 slice_bounds-start_filter-start c =
-    let within : (c.loop-l.at + c.size.result ≤ length c.loop-l.part) × (length c.loop-l.part ≡ length c.args.part.now) = let f = design_at c.args.lengths.now c.args.coefficients.now in
+    let within : (c.loop-l.at + c.size.result ≤ length c.loop-l.part) × (length c.loop-l.part ≡ length c.args.part.now) = let f = design_at c.args.designs.now in
     let size = rw c.design_at-d.ensures at c.size.ensures in
     (on_fits f c.loop-l.invariant.2.cells c.requires.few.room c.loop-l-test.true c.loop-l.at c.size.result c.loop-l.invariant.1 size, c.loop-l.invariant.2.cells.same) in
     omega (arith, within)
 
 pub slice_bounds-start_filter-end : goal.slice_bounds-start_filter-end
 slice_bounds-start_filter-end c =
-    let within : (c.loop-l.at + c.size.result ≤ length c.loop-l.part) × (length c.loop-l.part ≡ length c.args.part.now) = let f = design_at c.args.lengths.now c.args.coefficients.now in
+    let within : (c.loop-l.at + c.size.result ≤ length c.loop-l.part) × (length c.loop-l.part ≡ length c.args.part.now) = let f = design_at c.args.designs.now in
     let size = rw c.design_at-d.ensures at c.size.ensures in
     (on_fits f c.loop-l.invariant.2.cells c.requires.few.room c.loop-l-test.true c.loop-l.at c.size.result c.loop-l.invariant.1 size, c.loop-l.invariant.2.cells.same) in
     omega (arith, within)
@@ -92,7 +92,7 @@ pub start_filter-requires : goal.start_filter-requires
 start_filter-requires c =
     let args = c.args in
     let few = c.requires.few in
-    let f = design_at args.lengths.now args.coefficients.now in
+    let f = design_at args.designs.now in
     let taken = c.loop-l-test.true in
     let is = c.design_at-d.ensures in
     record {
@@ -128,7 +128,7 @@ pub loop-l-preserved : goal.loop-l-preserved
 loop-l-preserved c =
     let args = c.args in
     let few = c.requires.few in
-    let f = design_at args.lengths.now args.coefficients.now in
+    let f = design_at args.designs.now in
     let taken = c.loop-l-test.true in
     let is = c.design_at-d.ensures in
     let k = rw is at c.size.ensures in

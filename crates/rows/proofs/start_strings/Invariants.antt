@@ -7,7 +7,7 @@ use Rattle.rows.proofs.start_strings.Given as goal
 
 abbrev pub invariant-loop-l : goal.invariant-loop-l
 invariant-loop-l l =
-    (l.l ≤ l.m) × (l.at ≡ string_start (design_at l.lengths l.coefficients) (l.i + l.l)) × Started (design_at l.lengths l.coefficients) l.i l.l l.t l.initial.part l.part l.v
+    (l.l ≤ l.m) × (l.at ≡ string_start (design_at l.designs) (l.i + l.l)) × Started (design_at l.designs) l.i l.l l.t l.initial.part l.part l.v
 
 abbrev pub decreases-loop-l : goal.decreases-loop-l
 decreases-loop-l l = l.m - l.l
