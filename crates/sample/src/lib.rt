@@ -38,7 +38,7 @@ pub struct Sampled {
 fn bridge(part: &mut [f64], v_in: &[f64], tables: Tables<'_>, indices: &[Indices], t: u64) -> f64
     requires ready { Ready (model_at tables) part.old v_in.now }
     requires indexed { Indexed tables.designs.now indices.now t }
-    ensures { Bridged (model_at tables) t v_in.now part.old part.new result }
+    ensures { Bridged (model_at tables.entry) t v_in.now part.old part.new result }
 {
     let Tables {
         constants,
@@ -100,7 +100,7 @@ pub fn sample(
     requires ready { Ready (model_at tables) part.old scratch.old }
     requires indexed { Indexed tables.designs.now indices.now t }
     ensures { step_of result damper_r.new part.new
-        ≡ sampled (model_at tables) (λ k. get_or down.now k false) t damper_r.old motion part.old }
+        ≡ sampled (model_at tables.entry) (λ k. get_or down.now k false) t damper_r.old motion part.old }
 {
     let Tables {
         constants,
