@@ -9,7 +9,7 @@ use Rattle.string.specs.String.{size_of, at_row, v_in, filtered}
 use Rattle.string.specs.Table.{design_at}
 use Rattle.string.specs.Steps.{u_in, started, out_to, rowed_to, finished_out, finished}
 use Rattle.rows.specs.declared.Rows.{Rows}
-use Rattle.rows.specs.declared.Next.{Next}
+use Rattle.rows.specs.declared.Place.{Place}
 use Rattle.strings.specs.Strings.{Keyed}
 
 -- where string k's cells start, and how many they are
@@ -19,12 +19,13 @@ string_start f k = start_in size_of f k
 abbrev pub size_at : (ℕ → StringDesign) → ℕ → ℕ
 size_at f k = size_in size_of f k
 
--- the m strings from string i on, at most four, whose cells are there
-pub record Few (designs : List StringDesign) (i m : ℕ) (w : List Float) : Type 0 where
+-- the next m strings, at most four, whose cells are there, where a walk over the strings stands
+pub record Few (designs : List StringDesign) (here : Place) (m : ℕ) (w : List Float) : Type 0 where
   pub few : m ≤ 4
-  pub known : i + m ≤ length designs
-  pub fit : (k : ℕ) → k < i + m → Keyed (design_at designs k)
-  pub room : string_start (design_at designs) (i + m) ≤ length w
+  pub known : here.i + m ≤ length designs
+  pub fit : (k : ℕ) → k < here.i + m → Keyed (design_at designs k)
+  pub start : here.at ≡ string_start (design_at designs) here.i
+  pub room : string_start (design_at designs) (here.i + m) ≤ length w
 
 -- string k is f k
 module _ (f : ℕ → StringDesign) where
@@ -74,7 +75,7 @@ module _ (f : ℕ → StringDesign) where
     pub end : e ≡ string_start f (i + m)
 
   -- the same of the strings from i up to the next, of n
-  pub record FilteredTo (i n t : ℕ) (w₀ w o₀ o : List Float) (r : Next) : Type 0 where
+  pub record FilteredTo (i n t : ℕ) (w₀ w o₀ o : List Float) (r : Place) : Type 0 where
     pub m : ℕ
     pub some : 1 ≤ m
     pub next : r.i ≡ i + m
