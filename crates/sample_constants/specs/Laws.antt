@@ -13,7 +13,9 @@ use Rattle.string.specs.Table.{past_design, design_at, list_is}
 use Rattle.strings.specs.Strings.{Keyed, AllFit}
 use Rattle.keys.specs.declared.KeyConstants.{KeyConstants}
 use Rattle.keys.specs.Keys.{past_constants}
-use Rattle.sample_constants.specs.Model.{owner_of, owner_in, string_of, string_in, key_in, strings_of, KeysFilled, StringsFilled}
+use Rattle.points.specs.declared.Constants.{Constants}
+use Rattle.sample.specs.Sample.{Model}
+use Rattle.sample_constants.specs.Model.{constants_of, owner_of, owner_in, string_of, string_in, key_in, strings_of, model_of, KeysFilled, StringsFilled}
 
 -- the search for a string's key ends at one of the keys, or at 0
 owner_below : (count : ℕ → ℕ) (k n j m : ℕ) → 0 < m → k + n ≤ m → owner_of count k n j < m
@@ -67,3 +69,9 @@ pub filled_keys : (i : Instrument) (keys : List KeyConstants) → length keys �
 filled_keys i keys long most f =
     list_is (key_in i) i.key_count (take i.key_count keys) past_constants (simp length-take (omega (arith, long)))
     (λ k h. get_or-take i.key_count keys k past_constants h ∙ f.each k h)
+
+-- so filled tables are the model
+module _ (i : Instrument) {constants : Constants} {keys : List KeyConstants} {designs : List StringDesign} (few : i.key_count ≤ 16) (most : i.string_count ≤ 32) where
+  pub filled_model : constants ≡ constants_of i.common → length keys ≡ 16 → KeysFilled i keys → length designs ≡ 32 → StringsFilled i designs
+      → ◌≡◌ {A = Model} (record { constants = constants; keys = take i.key_count keys; strings = take i.string_count designs }) (model_of i)
+  filled_model e long k wide d = rw (e, filled_keys i keys long few k, filled_strings i designs wide most d)

@@ -4,8 +4,9 @@ use mathlib.Core.Path.{◌≡◌, refl, ◌∙◌}
 use native.Mathlib.Nat.{add-zero}
 use native.Mathlib.Omega.{arith}
 use borrow.Author.Rules.{rules}
-use Rattle.sample_constants.specs.Model.{strings_of}
-use Rattle.sample_constants.specs.Laws.{filled_strings}
+use lib.ListN.{length}
+use lib.Seq.{length-take-le}
+use Rattle.sample_constants.specs.Laws.{filled_strings, filled_model}
 use Rattle.score.specs.Score.{events_of}
 use Rattle.render.specs.Render.{unstarted}
 use Rattle.render.proofs.Runs.{advanced_start, advanced_then, advanced_lengths, advanced_rendered}
@@ -36,9 +37,10 @@ loop-run-init c =
 pub next_stretch-stretch-requires : goal.next_stretch-stretch-requires
 next_stretch-stretch-requires c =
     let asked = c.requires in
-    let strings : _ ≡ strings_of c.args.instrument = filled_strings c.args.instrument c.string_table-strings.result (search rules) asked.renderable.strings c.string_table-strings.ensures in
+    let can = asked.renderable in
+    let strings = filled_strings c.args.instrument c.string_table-strings.result (search rules) can.strings c.string_table-strings.ensures in
     record {
-      playable = strings_playable asked.renderable strings c.loop-run.part c.loop-run.invariant.part;
+      playable = strings_playable can strings c.loop-run.part c.loop-run.invariant.part;
       strings = strings;
       done_lt_m = c.loop-run-test.true;
       m_bound = asked.m_bound;
@@ -49,9 +51,13 @@ play_stretch-run-requires c =
     let here = c.loop-run in
     let can = c.requires.renderable in
     let next = c.next_stretch-stretch in
+    let long : length c.key_table-keys.result ≡ 16 = search rules in
+    let keys = length-take-le c.args.instrument.key_count c.key_table-keys.result (omega (arith, long, can.keys)) in
+    let wide : length c.string_table-strings.result ≡ 32 = search rules in
+    let tables = filled_model c.args.instrument can.keys can.strings c.constants_of.ensures long c.key_table-keys.ensures wide c.string_table-strings.ensures in
     record {
-      ready = model_ready can ? _ here.scratch (next.auto.part ∙ here.invariant.part) here.invariant.scratch;
-      in_range = ?;
+      ready = model_ready can tables _ here.scratch (next.auto.part ∙ here.invariant.part) here.invariant.scratch;
+      in_range = rw keys (stretch_in_range can next.ensures here.invariant.in_range);
     }
 
 pub loop-run-smaller : goal.loop-run-smaller
@@ -65,9 +71,13 @@ loop-run-preserved c =
     let can = c.requires.renderable in
     let next = c.next_stretch-stretch in
     let call = c.play_stretch-run in
+    let long : length c.key_table-keys.result ≡ 16 = search rules in
+    let keys = length-take-le c.args.instrument.key_count c.key_table-keys.result (omega (arith, long, can.keys)) in
+    let wide : length c.string_table-strings.result ≡ 32 = search rules in
+    let tables = filled_model c.args.instrument can.keys can.strings c.constants_of.ensures long c.key_table-keys.ensures wide c.string_table-strings.ensures in
     record {
-      advanced = advanced_then here.invariant.advanced (stretch_advanced can next.ensures ? call.ensures.0 call.ensures.1);
-      in_range = stretch_done can next.ensures here.invariant.in_range call.ensures.2;
+      advanced = advanced_then here.invariant.advanced (stretch_advanced can next.ensures tables call.ensures.0 call.ensures.1);
+      in_range = stretch_done can next.ensures here.invariant.in_range (rw keys at call.ensures.2);
       part = call.auto.part ∙ next.auto.part ∙ here.invariant.part;
       scratch = call.auto.scratch ∙ here.invariant.scratch;
     }
