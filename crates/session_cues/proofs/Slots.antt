@@ -70,7 +70,7 @@ found_is x cs = go (ltb (slot_at x cs) (length cs)) refl ∙ slot_in x cs
 
 -- the test of the first slot left, and what it leaves to the later ones
 module _ (keys : ℕ) (left : List Cue) (c : Cue) (cs : List Cue) (e : left ≡ c ∷ cs)
-  (alone again : Bool) (ea : alone ≡ sound_cue keys c) (eg : again ≡ is_in c.position (kept_of cs)) where
+    (alone again : Bool) (ea : alone ≡ sound_cue keys c) (eg : again ≡ is_in c.position (kept_of cs)) where
   sound_if : sound_cues keys left ≡ ((alone && not (c.kept && again)) && sound_cues keys cs)
   unfolding sound_cues_to
   sound_if = rw (e, ea, eg)
