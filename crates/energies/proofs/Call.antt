@@ -48,7 +48,7 @@ module _ (i : Instrument) (h : valid i ≡ true) (cells : List Float) {designs :
       let pair : ℕ → KeyEnergy = λ k. record { key = (key_at i.keys k).key; energy = key_energy i cells k } in
       let each : (k : ℕ) → k < i.key_count → pair_of i sums k ≡ pair k =
       λ k q. ap (λ (e : Float). record { key = (key_at i.keys k).key; energy = e })
-          (ap (λ (l : List Float). get_or l k nan) d ∙ key_sum k (strings_of i) cells (omega (arith, (few i h).0))) in
+      (ap (λ (l : List Float). get_or l k nan) d ∙ key_sum k (strings_of i) cells (omega (arith, (few i h).0))) in
       ap (λ (l : List KeyEnergy). record { keys = l; count = i.key_count }) (ep ∙ ap (pad 16 no_energy) (tabulate_cong i.key_count (pair_of i sums) pair each))
 
 module _ (i : Instrument) (s : Session) (work : List Float) where

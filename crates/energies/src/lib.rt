@@ -24,7 +24,7 @@ pub struct KeyEnergy {
     pub energy: f64,
 }
 
-// The first `count` are the keys' in the file's order; zeros past them.
+// The first `count` are the keys' in the file's order; zeros past them. An array with its count, since nothing here may allocate.
 #[derive(Clone, Copy)]
 pub struct Energies {
     pub keys: [KeyEnergy; 16],
@@ -56,7 +56,11 @@ fn string_energy(cells: &[f64], d: StringDesign) -> f64
     ensures { result ≡ string_energy d cells.now }
 {
     let Layout {
-        b_r, b_l, c_r, c_l, ..
+        b_r,
+        b_l,
+        c_r,
+        c_l,
+        ..
     } = d.layout();
     let mut sum = 0.0 + energy_at(cells, 0, d.na);
     sum += energy_at(cells, d.na, d.na);

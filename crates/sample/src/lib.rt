@@ -56,9 +56,7 @@ fn bridge(part: &mut [f64], v_in: &[f64], tables: Tables<'_>, indices: &[Indices
 fn hammer_after(any_contact: bool, h: Flight) -> Option<Flight>
     ensures { result ≡ hammer_after any_contact h }
 {
-    if any_contact {
-        Some(h)
-    } else if h.v_h < 0.0 {
+    if !any_contact && h.v_h < 0.0 {
         None
     } else {
         Some(h)
@@ -127,9 +125,9 @@ pub fn count_contact(contact_samples: &mut [u64; 16], h: Option<Flight>, contact
     requires { CanCount contact_samples.old h }
     ensures { contact_samples.new ≡ counted_for h contact contact_samples.old }
 {
-    if let Some(h) = h {
-        if contact {
-            contact_samples[h.key_index] += 1;
-        }
+    if let Some(h) = h
+        && contact
+    {
+        contact_samples[h.key_index] += 1;
     }
 }

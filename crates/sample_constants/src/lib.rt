@@ -1,7 +1,7 @@
 // What the samples are computed with, from an instrument's record: the constants, and the tables of its strings and keys, filled once a call.
 #![tactic(auto)]
 
-ghost use Rattle.std.specs.Prelude.{◌≡◌, ◌≤◌, ◌<◌, length};
+ghost use Rattle.std.specs.Prelude.{◌≡◌, ◌≤◌, ◌<◌, length, unwrap_or};
 ghost use Rattle.instrument.specs.Valid.{key_at};
 ghost use Rattle.sample_constants.specs.Model.{constants_of, key_constants, string_of, owner_of, string_in, StringsFilled, KeysFilled};
 
@@ -51,19 +51,18 @@ pub fn key_table(instrument: &Instrument) -> [KeyConstants; 16]
     std::array::from_fn(|k| key_constants(instrument.common, instrument.keys[k]))
 }
 
-// The index of the key that a string belongs to, as the keys' strings stand one key's after another's; 0 past all of them, where no
-// accepted instrument has a string.
-fn owner(keys: &[KeyDesign], string: usize) -> usize
-    ensures { result ≡ owner_of (λ k. (key_at keys.now k).strings) 0 (length keys.now) string }
+// The index of the key that a string belongs to, as the keys' strings stand one key's after another's, if the keys have so many.
+fn owner(keys: &[KeyDesign], string: usize) -> Option<usize>
+    ensures { unwrap_or result 0 ≡ owner_of (λ k. (key_at keys.now k).strings) 0 (length keys.now) string }
 {
     let mut left = string;
     for (k, key) in keys.iter().enumerate() {
         if left < key.strings {
-            return k;
+            return Some(k);
         }
         left -= key.strings;
     }
-    0
+    None
 }
 
 // A string of key k: its cuts by the key's ratios, and its filter's coefficients.
@@ -87,14 +86,14 @@ fn design_of(l: LoopDesign, key: KeyDesign, k: usize) -> StringDesign
     }
 }
 
-// The design of string i of an instrument.
+// The design of string i of an instrument. Of an accepted one each string has its key.
 #[tactic(auto, unfolding(crate::specs::Model::string_in))]
 fn string_design(instrument: &Instrument, i: usize) -> StringDesign
     requires keys { instrument.now.key_count ≤ 16 }
     requires i_in_bounds { i < 32 }
     ensures { result ≡ string_in instrument.now i }
 {
-    let k = owner(&instrument.keys[..instrument.key_count], i);
+    let k = owner(&instrument.keys[..instrument.key_count], i).unwrap_or(0);
     design_of(instrument.strings[i], instrument.keys[k], k)
 }
 

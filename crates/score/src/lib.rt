@@ -27,7 +27,7 @@ pub struct TimedEvent {
     pub event: Event,
 }
 
-// The first `count` events, in their order.
+// The first `count` events, in their order. An array with its count, since nothing here may allocate.
 #[derive(Clone, Copy)]
 pub struct Score {
     pub events: [TimedEvent; 64],
@@ -134,15 +134,13 @@ fn apply(
             }
             None => piano,
         },
-        Event::NoteOff { key } => match key_index(instrument, key) {
-            Some(k) => release_key(piano, k),
-            None => piano,
-        },
+        Event::NoteOff { key } => {
+            key_index(instrument, key).map_or(piano, |k| release_key(piano, k))
+        }
         Event::Pedal(down) => move_pedal(piano, down),
-        Event::HandDamp { key } => match key_index(instrument, key) {
-            Some(k) => hand_damp_key(piano, k),
-            None => piano,
-        },
+        Event::HandDamp { key } => {
+            key_index(instrument, key).map_or(piano, |k| hand_damp_key(piano, k))
+        }
     }
 }
 
@@ -185,7 +183,7 @@ pub fn dampers_down(instrument: Instrument, piano: Piano) -> [bool; 16]
     ensures { AllDown instrument piano result }
 {
     std::array::from_fn(|k| {
-        instrument.keys[k].has_damper & (piano.hand_damped[k] | !(piano.held[k] | piano.pedal))
+        instrument.keys[k].has_damper && (piano.hand_damped[k] || !(piano.held[k] || piano.pedal))
     })
 }
 

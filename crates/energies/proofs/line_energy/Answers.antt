@@ -15,6 +15,6 @@ returns c =
     subst (λ (l : List Float). c.fold.result ≡ sum_from +0 (map square l)) c.iter.ensures.rest
     (fold_over fronts (λ y. y.now) _ (λ (cells : List Float) (sum : Float). sum ≡ sum_from +0 (map square cells)) _
     (λ cells a x b f' j k.
-        let e : b ≡ add binary64 a (square x.now) = search rules in
-        (e ∙ ap (λ (s : Float). add binary64 s (square x.now)) j ∙ sym (line_more +0 cells x.now), search rules))
+    let e : b ≡ add binary64 a (square x.now) = search rules in
+    (e ∙ ap (λ (s : Float). add binary64 s (square x.now)) j ∙ sym (line_more +0 cells x.now), search rules))
     c.iter.result _ _ _ (slice_gives c.iter.result) refl c.fold.ensures.ran)

@@ -1,5 +1,5 @@
 -- `render::play_stretch` meets its contract: a turn of its loop is `one_turn`. Assumes nothing.
-use mathlib.Core.Path.{◌≡◌, refl, subst, ◌∙◌}
+use mathlib.Core.Path.{◌≡◌, refl, ap, subst, ◌∙◌}
 use mathlib.Core.Bool.{false}
 use Prim.Native.Nat.{ℕ, ◌+◌}
 use native.Mathlib.Omega.{arith}
@@ -8,6 +8,7 @@ use Rattle.sample.specs.Sample.{Step, model_at, step_of}
 use Rattle.sample.specs.Laws.{ready_kept}
 use Rattle.score.specs.Contacts.{contacts_of}
 use Rattle.score.specs.Laws.{can_count}
+use Rattle.render.specs.declared.Run.{Run}
 use Rattle.render.specs.Render.{Advanced, InRange, rendering_of, stretch_step}
 use Rattle.render.proofs.Runs.{advanced_lengths, advanced_start, advanced_then, one_turn}
 use Rattle.render.proofs.play_stretch.Goals as goal
@@ -79,12 +80,12 @@ shape_of-trace c = (advanced_lengths c.loop-done.invariant.advanced).1
 pub returns : goal.returns
 returns c =
     let here = c.loop-done in
-    let s = c.args.stretch in
+    let at = c.args in
+    let s = at.stretch in
     let stopped : here.done ≡ s.stop = omega (arith, c.loop-done-test.false, here.invariant.in_range.below) in
-    let advanced : Advanced (stretch_step s (model_at c.args.tables)) s.t
-        (rendering_of s.run c.args.part.now c.args.out.now c.args.trace.now)
-        (rendering_of (record { piano = here.piano; done = s.stop; pushed = here.pushed }) here.part here.out here.trace) =
-    subst (λ (done : ℕ). Advanced (stretch_step s (model_at c.args.tables)) s.t
-        (rendering_of s.run c.args.part.now c.args.out.now c.args.trace.now)
-        (rendering_of (record { piano = here.piano; done = done; pushed = here.pushed }) here.part here.out here.trace)) stopped here.invariant.advanced in
-    (advanced, refl, subst (λ (done : ℕ). InRange (length c.args.tables.keys.now) (record { piano = here.piano; done = done; pushed = here.pushed }) s.t s.stop) stopped here.invariant.in_range)
+    let all_done = ap (λ (done : ℕ). record { piano = here.piano; done = done; pushed = here.pushed }) stopped in
+    let from = rendering_of s.run at.part.now at.out.now at.trace.now in (
+      subst (λ (r : Run). Advanced (stretch_step s (model_at at.tables)) s.t from (rendering_of r here.part here.out here.trace)) all_done here.invariant.advanced,
+      refl,
+      subst (λ (r : Run). InRange (length at.tables.keys.now) r s.t s.stop) all_done here.invariant.in_range,
+    )

@@ -28,8 +28,8 @@ returns c =
     let model = model_at at.tables in
     let force : c.map.result ≡ option_map (λ _. c.strike_strings-f.result.force_sum) at.motion.hammer = search rules in
     rw c.is_some.ensures (
-      sample_is model (λ k. get_or at.down.now k false) at.t at.damper_r.now at.motion at.part.now
-      (drop (length model.strings) at.scratch.now) (fit_sound ready.fit) ready.cells
-      c.move_dampers.ensures c.filter_strings.ensures.0 c.strike_strings-f.ensures.0 c.strike_strings-f.ensures.1
-      c.move_hammer-after.ensures (rw c.filter_strings.ensures.1 at c.bridge-out.ensures) force
+    sample_is model (λ k. get_or at.down.now k false) at.t at.damper_r.now at.motion at.part.now
+    (drop (length model.strings) at.scratch.now) (fit_sound ready.fit) ready.cells
+    c.move_dampers.ensures c.filter_strings.ensures.0 c.strike_strings-f.ensures.0 c.strike_strings-f.ensures.1
+    c.move_hammer-after.ensures (rw c.filter_strings.ensures.1 at c.bridge-out.ensures) force
     )

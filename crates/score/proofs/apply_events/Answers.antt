@@ -20,13 +20,13 @@ loop-e-preserved c =
     let acted = c.loop-e.invariant.acted in
     elim c.if-e-t.branch [
       | then-e-t w ↦ record {
-          long = ap length w.part-is ∙ w.apply-p.auto.part ∙ c.loop-e.invariant.long;
-          acted = rw (w.part-is, w.p-is) (acted_now at.instrument ds es at.t s₀ s k acted c.loop-e-test.true e refl w.if-e-t.true _ w.apply-p.ensures);
-        }
+        long = ap length w.part-is ∙ w.apply-p.auto.part ∙ c.loop-e.invariant.long;
+        acted = rw (w.part-is, w.p-is) (acted_now at.instrument ds es at.t s₀ s k acted c.loop-e-test.true e refl w.if-e-t.true _ w.apply-p.ensures);
+      }
       | else-e-t w ↦ record {
-          long = ap length w.part-is ∙ c.loop-e.invariant.long;
-          acted = rw (w.part-is, w.p-is) (acted_other at.instrument ds es at.t s₀ s k acted c.loop-e-test.true e refl w.if-e-t.false);
-        }
+        long = ap length w.part-is ∙ c.loop-e.invariant.long;
+        acted = rw (w.part-is, w.p-is) (acted_other at.instrument ds es at.t s₀ s k acted c.loop-e-test.true e refl w.if-e-t.false);
+      }
     ]
 
 pub returns : goal.returns

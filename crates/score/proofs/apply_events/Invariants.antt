@@ -8,5 +8,5 @@ abbrev pub invariant-loop-e : goal.invariant-loop-e
 invariant-loop-e l = record {
   long : length l.part ≡ length l.initial.part;
   acted : Acted l.instrument l.designs l.events l.t (record { piano = l.initial.p; cells = l.initial.part })
-      (record { piano = l.p; cells = l.part }) l.e-index
+      (record { piano = l.p; cells = l.part }) l.e-index;
 }
