@@ -1,7 +1,7 @@
 -- Two sessions with work memories that agree but for what decides nothing (specs/Past.antt) get the same replies from every list of calls, and agree again afterwards. Assumes nothing.
-use Rattle.std.specs.Prelude.{◌≡◌, Bool, ◌&&◌, List, ◌∷◌, ◌++◌, map, eqb, leb, ltb, Float, take, drop, get_or, set}
+use Rattle.std.specs.Prelude.{◌≡◌, Bool, ◌&&◌, List, ◌∷◌, ◌++◌, map, eqb, leb, ltb, Float, take, drop, get_or, set, Result}
 use Rattle.std.proofs.Math.Path.{refl, sym, ap}
-use Rattle.std.proofs.Common.{◌∙◌, arith, eqb-true, ltb-true, length-set, length-take-le, get_or-set_other}
+use Rattle.std.proofs.Common.{◌∙◌, arith, eqb-true, ltb-true, length-set, length-take-le, get_or-set_other, one-add}
 use Rattle.std.proofs.Math.Bool.{true, false, cond, not}
 use Prim.Native.Nat.{ℕ, zero, suc, ◌+◌, ◌-◌, ◌*◌, ◌<◌, ◌≤◌}
 use Rattle.std.proofs.lemmas.Bool.{eqb-false}
@@ -29,7 +29,8 @@ use Rattle.session_record.specs.Laws.{Passed, CuePassed, passed_play, passed_cue
 use Rattle.session.specs.declared.Outcome.{Outcome}
 use Rattle.session.specs.Calls.{kept_by, empty_cue, cue_at, state_now, state_cue, held_at, refused_with, Plays, PlayMeets, Cues, CueMeets, Goes, GoMeets, Edits, InsertMeets, RemoveMeets}
 use Rattle.session.specs.Laws.{get_any, held_length}
-use Rattle.energies.specs.declared.EnergiesAnswer.{EnergiesAnswer}
+use Rattle.refusal.specs.declared.Refusal.{Refusal}
+use Rattle.energies.specs.declared.Energies.{Energies}
 use Rattle.energies.specs.Energy.{no_energies_for, EnergiesMeet}
 use Rattle.energies.specs.Laws.{first_part_decides}
 use Rattle.session_theorem.specs.Runs.{reply_of, CallMeets, Runs}
@@ -58,33 +59,40 @@ module _ (keys : ℕ) where
   same_sound (SameCues.free e f h) = rw (e, f) (same_sound h)
 
   same_slot : (x : ℕ) {a b : List Cue} → SameCues keys a b → slot_at x a ≡ slot_at x b
-  unfolding slot_at
   same_slot x SameCues.no_more = refl
   same_slot x (SameCues.kept {c = c} {d = d} {a = a} e h) =
-      ap (λ (y : Cue). cond (stands_at x y) 0 (suc (slot_at x a))) e ∙ ap (λ n. cond (stands_at x d) 0 (suc n)) (same_slot x h)
-  same_slot x (SameCues.free e f h) = rw (e, f) (ap suc (same_slot x h))
+      ap (λ (y : Cue). cond (not (stands_at x y)) (1 + slot_at x a) 0) e ∙ ap (λ n. cond (not (stands_at x d)) (1 + n) 0) (same_slot x h)
+  same_slot x (SameCues.free e f h) = rw (e, f) (ap (λ n. 1 + n) (same_slot x h))
 
   same_free : {a b : List Cue} → SameCues keys a b → free_slot a ≡ free_slot b
-  unfolding free_slot
   same_free SameCues.no_more = refl
-  same_free (SameCues.kept {c = c} {d = d} {a = a} e h) = ap (λ (x : Cue). cond x.kept (suc (free_slot a)) 0) e ∙ ap (λ n. cond d.kept (suc n) 0) (same_free h)
+  same_free (SameCues.kept {c = c} {d = d} {a = a} e h) =
+      ap (λ (x : Cue). cond (not (not x.kept)) (1 + free_slot a) 0) e ∙ ap (λ n. cond (not (not d.kept)) (1 + n) 0) (same_free h)
   same_free (SameCues.free e f h) = rw (e, f) refl
+
+  piano_later : (a b : List Cue) (c c' d e : Cue) (m n : ℕ) → of_keys keys (get_or a m d).piano ≡ of_keys keys (get_or b n e).piano
+      → of_keys keys (get_or (c ∷ a) (1 + m) d).piano ≡ of_keys keys (get_or (c' ∷ b) (1 + n) e).piano
+  piano_later a b c c' d e m n h = rw (one-add m, one-add n) h
+
+  slot_away : (x : ℕ) (c : Cue) (a : List Cue) → c.kept ≡ false → slot_at x (c ∷ a) ≡ 1 + slot_at x a
+  slot_away x c a k = rw k refl
 
   -- the piano of the slot that keeps x, but for those counts
   same_piano : (x : ℕ) {a b : List Cue} (d e : Cue) → SameCues keys a b → slot_at x a < length a
       → of_keys keys (get_or a (slot_at x a) d).piano ≡ of_keys keys (get_or b (slot_at x b) e).piano
-  unfolding slot_at
   same_piano x d e SameCues.no_more l = absurd (omega arith)
   same_piano x d e (SameCues.kept {c = c} {d = c'} {a = a} {b = b} k h) l =
       let stands : stands_at x c ≡ stands_at x c' = ap (stands_at x) k in
       rw stands (go (stands_at x c') (rw stands at l) (same_piano x d e h))
     where
-      go : (q : Bool) → cond q 0 (suc (slot_at x a)) < suc (length a)
+      go : (q : Bool) → cond (not q) (1 + slot_at x a) 0 < suc (length a)
           → (slot_at x a < length a → of_keys keys (get_or a (slot_at x a) d).piano ≡ of_keys keys (get_or b (slot_at x b) e).piano)
-          → of_keys keys (get_or (c ∷ a) (cond q 0 (suc (slot_at x a))) d).piano ≡ of_keys keys (get_or (c' ∷ b) (cond q 0 (suc (slot_at x b))) e).piano
+          → of_keys keys (get_or (c ∷ a) (cond (not q) (1 + slot_at x a) 0) d).piano ≡ of_keys keys (get_or (c' ∷ b) (cond (not q) (1 + slot_at x b) 0) e).piano
       go true l ih = ap (λ (y : Cue). y.piano) k
-      go false l ih = ih (omega arith)
-  same_piano x d e (SameCues.free k m h) l = rw (k, m) (same_piano x d e h (omega (arith, rw k at l)))
+      go false l ih = piano_later a b c c' d e (slot_at x a) (slot_at x b) (ih (omega arith))
+  same_piano x d e (SameCues.free {c = c} {d = c'} {a = a} {b = b} k m h) l =
+      let more = slot_away x c a k in
+      rw (more, slot_away x c' b m) (piano_later a b c c' d e (slot_at x a) (slot_at x b) (same_piano x d e h (omega (arith, more, l))))
 
 -- ---- what is asked of a session and its memory
 
@@ -427,7 +435,7 @@ module _ (i : Instrument) (s : Session) (work : List Float) (s' : Session) (work
   same_call (Call.remove index) out trace out₀ trace₀ r r' left left' out₁ trace₁ out₂ trace₂ h h' = same_remove index out₁ trace₁ out₂ trace₂ r r' left left' h h'
 
   -- ---- energies
-  pub same_energies : (r r' : EnergiesAnswer) → EnergiesMeet i s work r → EnergiesMeet i s' work' r' → r ≡ r'
+  pub same_energies : (r r' : Result Energies Refusal) → EnergiesMeet i s work r → EnergiesMeet i s' work' r' → r ≡ r'
   same_energies r r' h h' = first_part_decides i s' work work' r r' a.memory.cells a.memory.now moved h'
     where
       number : record_refusal i s (length work) ≡ record_refusal i s' (length work)

@@ -1,6 +1,8 @@
 -- Document 01, "The session": a list of calls as the program runs it, each step by the record that the called function's `ensures` cites and by nothing else; and what is claimed of
 -- it. Definitions only: assumes nothing.
-use Rattle.std.specs.Prelude.{◌≡◌, true, List, [], ◌∷◌, ℕ, ◌<◌, Float, length, take, get_or}
+use Rattle.std.specs.Prelude.{◌≡◌, true, List, [], ◌∷◌, ℕ, ◌<◌, Float, length, take, get_or, Result, Ok, Err}
+use Rattle.refusal.specs.declared.Refusal.{Refusal}
+use Rattle.refusal.specs.Refusal.{number_of}
 use Rattle.instrument.specs.declared.Instrument.{Instrument}
 use Rattle.score.specs.Score.{events_at}
 use Rattle.score.specs.Contacts.{contacts_of}
@@ -13,18 +15,19 @@ use Rattle.machine.specs.Laws.{Allowed, Replayed}
 use Rattle.session_record.specs.declared.Session.{Session}
 use Rattle.session_record.specs.Record.{score_of}
 use Rattle.session.specs.declared.Answer.{Answer}
-use Rattle.session.specs.declared.Answer.TheVariants.{Refused, Opened, Played, Cued, Went, Edited}
+use Rattle.session.specs.declared.Answer.TheVariants.{Opened, Played, Cued, Went, Edited}
 use Rattle.session.specs.declared.Outcome.{Outcome}
 use Rattle.session.specs.Calls.{PlayMeets, CueMeets, GoMeets, InsertMeets, RemoveMeets, kept_by, cue_at, state_now, state_cue}
 
--- the reply that an answer gives, with the output and the first k cells of the trace where it is play's; `Opened` is no reply to these calls, and 0 no refusal
-abbrev pub reply_of : Answer → List Float → List Float → Reply
-reply_of (Refused n) out trace = Reply.refused n
-reply_of Opened out trace = Reply.refused 0
-reply_of (Played k contacts) out trace = Reply.played k contacts out (take k trace)
-reply_of Cued out trace = Reply.cued
-reply_of (Went n) out trace = Reply.went n
-reply_of (Edited t n) out trace = Reply.edited t n
+-- the reply that an answer gives, with the output and the first k cells of the trace where it is play's; `Opened` is no reply to
+-- these calls, and 0 no refusal
+abbrev pub reply_of : Result Answer Refusal → List Float → List Float → Reply
+reply_of (Err e) out trace = Reply.refused (number_of e)
+reply_of (Ok Opened) out trace = Reply.refused 0
+reply_of (Ok (Played k contacts)) out trace = Reply.played k contacts out (take k trace)
+reply_of (Ok Cued) out trace = Reply.cued
+reply_of (Ok (Went n)) out trace = Reply.went n
+reply_of (Ok (Edited t n)) out trace = Reply.edited t n
 
 -- what the `ensures` of the called function says of a call. Output and trace, before and after, are play's; no other call has any.
 abbrev pub CallMeets : Instrument → Session → List Float → Call → List Float → List Float → Outcome → List Float → List Float → List Float → Type 0

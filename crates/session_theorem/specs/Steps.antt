@@ -6,6 +6,7 @@ use Rattle.std.proofs.lemmas.Bool.{eqb-false}
 use Rattle.std.proofs.Math.ListN.{length, drop, get_or-map}
 use Rattle.std.proofs.lemmas.List.{length-map}
 use Rattle.std.proofs.Math.Seq.{drop_at}
+use Rattle.refusal.specs.Refusal.{number_of, numbered}
 use Rattle.cells.specs.Splice.{part}
 use Rattle.instrument.specs.declared.Instrument.{Instrument}
 use Rattle.instrument.specs.Work.{part_cells}
@@ -16,11 +17,11 @@ use Rattle.score.specs.Score.{no_event, events_at}
 use Rattle.score.specs.Contacts.{contacts_of}
 use Rattle.render.specs.Render.{run, samples, forces, silence, render_state, render_samples, render_forces, render_contacts}
 use Rattle.render.specs.Laws.{samples_length, render_then, render_local, render_samples_lem, render_forces_lem, render_sum}
-use Rattle.positions.specs.Positions.{others, count, is_in, up_to, greatest}
+use Rattle.positions.specs.Positions.{end, others, count, is_in, up_to, greatest}
 use Rattle.positions.specs.Laws.{and_true, same_cons, same_up_to, in_front, in_cons, in_same, in_up_to, greatest_same, greatest_member, greatest_up_to}
-use Rattle.score_edits.specs.Edits.{placed, removed}
+use Rattle.score_edits.specs.Edits.{placed, removed, sound_velocity}
 use Rattle.score_edits.specs.Laws.{placed_before, removed_before}
-use Rattle.machine.specs.Refusals.{or_else, play_refusal, cue_refusal, go_refusal, insert_refusal, remove_refusal}
+use Rattle.machine.specs.Refusals.{refuse_if, or_else, scratch_cells, play_refusal, cue_refusal, go_refusal, insert_refusal, remove_refusal}
 use Rattle.machine.specs.Machine.{Machine, Call, Reply, start_of, settled, edit, unless, does, does_to, block_samples, block_forces}
 use Rattle.machine.specs.Laws.{SoundMachine, sound_does, settled_low, insert_passed, remove_passed}
 use Rattle.session_cues.specs.declared.Cue.{Cue}
@@ -37,14 +38,33 @@ use Rattle.session_theorem.specs.Arrays.{placed_score, placed_long, removed_scor
 use Rattle.session_theorem.specs.Memory.{front_now, front_cue, front_length, slot_now, slot_new, slot_other, slot_length}
 use Rattle.session_theorem.specs.Stands.{Stands, standing_passes, held_render, score_length}
 
+-- a machine's number that is not 0 is that of a refusal, so that the answer names it
+abbrev Named : ℕ → Type 0
+Named m = (m ≡ 0 → ⊥) → number_of (numbered m) ≡ m
+
+named_test : (b : Bool) (n : ℕ) → number_of (numbered n) ≡ n → Named (refuse_if b n)
+named_test true n h z = h
+named_test false n h z = absurd (z refl)
+
+named_else : (a b : ℕ) → Named a → Named b → Named (or_else a b)
+named_else zero b h g = g
+named_else (suc a) b h g = h
+
+named_three : (a b c : Bool) (x y z : ℕ) → number_of (numbered x) ≡ x → number_of (numbered y) ≡ y → number_of (numbered z) ≡ z
+    → Named (or_else (refuse_if a x) (or_else (refuse_if b y) (refuse_if c z)))
+named_three a b c x y z hx hy hz =
+    named_else (refuse_if a x) _ (named_test a x hx) (named_else (refuse_if b y) _ (named_test b y hy) (named_test c z hz))
+
 -- a call by its refusal: `n` is the contract's, `m` the machine's
-by_refusal : (i : Instrument) (s : Session) (work : List Float) (p : Machine) (n m : ℕ) (done : Machine × Reply) (r : Outcome) (work' out trace : List Float) → Stands i s work p → n ≡ m
+by_refusal : (i : Instrument) (s : Session) (work : List Float) (p : Machine) (n m : ℕ) → Named m
+    → (done : Machine × Reply) (r : Outcome) (work' out trace : List Float) → Stands i s work p → n ≡ m
     → ((n ≡ 0 → ⊥) → (r ≡ refused_with s n) × (work' ≡ work)) → (n ≡ 0 → Stands i r.session work' done.0 × (reply_of r.answer out trace ≡ done.1))
     → Stands i r.session work' (unless m p done).0 × (reply_of r.answer out trace ≡ (unless m p done).1)
-by_refusal i s work p n zero done r work' out trace g e refuses accepts = accepts e
-by_refusal i s work p n (suc m) done r work' out trace g e refuses accepts =
+by_refusal i s work p n zero named done r work' out trace g e refuses accepts = accepts e
+by_refusal i s work p n (suc m) named done r work' out trace g e refuses accepts =
     let h = refuses (λ z. omega arith) in
-    (rw (h.0, h.1) g, ap (λ q. reply_of q.answer out trace) h.0 ∙ ap Reply.refused e)
+    let same : number_of (numbered n) ≡ suc m = ap (λ k. number_of (numbered k)) e ∙ named (λ z. omega arith) in
+    (rw (h.0, h.1) g, ap (λ q. reply_of q.answer out trace) h.0 ∙ ap Reply.refused same)
 
 -- the contract's refusal is the machine's, since 7 and 8 do not come
 refusal_same : (a b c : ℕ) → a ≡ 0 → b ≡ c → or_else a b ≡ c
@@ -145,7 +165,9 @@ module _ (i : Instrument) (s : Session) (work : List Float) (p : Machine) (g : S
     play_step : Stands i r.session work' (does i p playing).0 × (reply_of r.answer out' trace' ≡ (does i p playing).1)
     unfolding does_to
     play_step =
-        by_refusal i s work p _ (play_refusal i p.t scratch m (length trace)) _ r work' out' trace' g play_same
+        by_refusal i s work p _ (play_refusal i p.t scratch m (length trace))
+        (named_three (ltb scratch (scratch_cells i)) (ltb (length trace) m) (ltb end (p.t + m)) 9 10 11 refl refl refl)
+        _ r work' out' trace' g play_same
         (λ n. let x = h.refuses n in (x.0, x.1))
         (λ z. let d = h.accepts z in (play_stands d (play_sound (sym play_same ∙ z)), play_reply d (play_sound (sym play_same ∙ z))))
       where
@@ -228,7 +250,7 @@ module _ (i : Instrument) (s : Session) (work : List Float) (p : Machine) (g : S
     cue_step : Stands i r.session work' (does i p Call.cue).0 × (reply_of r.answer out trace ≡ (does i p Call.cue).1)
     unfolding does_to
     cue_step =
-        by_refusal i s work p _ (cue_refusal p.t p.cues) _ r work' out trace g cue_same h.refuses
+        by_refusal i s work p _ (cue_refusal p.t p.cues) (named_test (leb 4 (others p.t p.cues)) 15 refl) _ r work' out trace g cue_same h.refuses
         (λ z.
         let d = h.accepts z in
         let m = sym cue_same ∙ z in
@@ -258,7 +280,9 @@ module _ (i : Instrument) (s : Session) (work : List Float) (p : Machine) (g : S
     go_step : Stands i r.session work' (does i p (Call.go scratch q)).0 × (reply_of r.answer out trace ≡ (does i p (Call.go scratch q)).1)
     unfolding does_to
     go_step =
-        by_refusal i s work p _ (go_refusal i scratch q start) _ r work' out trace g go_same h.refuses
+        by_refusal i s work p _ (go_refusal i scratch q start)
+        (named_three (ltb scratch (scratch_cells i)) (ltb end q) (ltb 1000000 (q - start)) 9 11 16 refl refl refl)
+        _ r work' out trace g go_same h.refuses
         (λ z.
         let d = h.accepts z in (
           go_stands d (rw (sym go_same ∙ z) at (sound_does p g.machine i (Call.go scratch q))),
@@ -338,7 +362,9 @@ module _ (i : Instrument) (s : Session) (work : List Float) (p : Machine) (g : S
     insert_step : Stands i r.session work' (does i p (Call.insert e)).0 × (reply_of r.answer out trace ≡ (does i p (Call.insert e)).1)
     unfolding does_to
     insert_step =
-        by_refusal i s work p _ (insert_refusal (length p.score) e) (edit p (placed p.score e) e.position) r work' out trace g insert_same h.refuses
+        by_refusal i s work p _ (insert_refusal (length p.score) e)
+        (named_three (ltb end e.position) (leb 64 (length p.score)) (not (sound_velocity e.event)) 11 12 13 refl refl refl)
+        (edit p (placed p.score e) e.position) r work' out trace g insert_same h.refuses
         (λ z.
         let m = sym insert_same ∙ z in
         let d = h.accepts z in
@@ -361,7 +387,8 @@ module _ (i : Instrument) (s : Session) (work : List Float) (p : Machine) (g : S
     remove_step : Stands i r.session work' (does i p (Call.remove index)).0 × (reply_of r.answer out trace ≡ (does i p (Call.remove index)).1)
     unfolding does_to
     remove_step =
-        by_refusal i s work p _ (remove_refusal (length p.score) index) (edit p (removed p.score index) gone) r work' out trace g remove_same h.refuses
+        by_refusal i s work p _ (remove_refusal (length p.score) index)
+        (named_test (leb (length p.score) index) 14 refl) (edit p (removed p.score index) gone) r work' out trace g remove_same h.refuses
         (λ z.
         let m = sym remove_same ∙ z in
         let at_gone : (get_or (score_of s) index no_event).position ≡ gone = ap (λ l. (get_or l index no_event).position) f.score in
