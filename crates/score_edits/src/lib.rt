@@ -1,4 +1,5 @@
-// Document 01, "The session": a score is the first `count` of 64 timed events. Where insert puts an event, what remove leaves, and the score's part of refusal 7.
+// Document 01, "The session": a score is the first `count` of 64 timed events. Where insert puts an event, what remove leaves, and the
+// score's part of refusal 7.
 #![tactic(auto)]
 
 ghost use Rattle.std.specs.Prelude.{◌≡◌, ◌++◌, ◌+◌, ◌-◌, ◌≤◌, ◌<◌, take, drop, length};

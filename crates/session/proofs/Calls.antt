@@ -1,4 +1,5 @@
--- What each call leaves to show once its tests have passed: that it may use the renderer or copy a part, and that what it gives is what it promises. Assumes nothing.
+-- What each call leaves to show once its tests have passed: that it may use the renderer or copy a part, and that what it gives is what it
+-- promises. Assumes nothing.
 use mathlib.Core.Path.{◌≡◌, refl, sym, ◌∙◌, ap}
 use mathlib.Core.Bool.{Bool, true, false}
 use Rattle.std.specs.Prelude.{Result, Ok, Option, Some, is_some, position}
@@ -52,7 +53,8 @@ module _ (i : Instrument) (s : Session) (work : List Float) {A : Type 0} (r : Re
   pub play_tested : (spare out trace : List Float) → number_in r ≡ play_number i s (length work) (length spare) (length out) (length trace)
       → PlayPassed i s (length work) (length spare) (length out) (length trace)
   play_tested spare out trace e =
-      passed_play i s (length work) (length spare) (length out) (length trace) (passed_zero r (play_number i s (length work) (length spare) (length out) (length trace)) e u is)
+      passed_play i s (length work) (length spare) (length out) (length trace)
+      (passed_zero r (play_number i s (length work) (length spare) (length out) (length trace)) e u is)
 
   pub cue_tested : number_in r ≡ cue_number i s (length work) → CuePassed i s (length work)
   cue_tested e = passed_cue i s (length work) (passed_zero r (cue_number i s (length work)) e u is)
@@ -76,7 +78,8 @@ silenced i work ok room w ew cells e =
     rw ew (ap (λ c. c ++ drop (part_cells i) work) (silent_cells i ok (take w work) cells size e))
 
 -- what records that pass 7 and 8 let the renderer have: a state that can be held for t, samples that end in time, W cells and scratch
-pub ready : (i : Instrument) (s : Session) (cells : ℕ) → Passed i s cells → (t m : ℕ) (part spare : List Float) (piano : Piano) → sound_piano i.key_count t piano ≡ true
+pub ready : (i : Instrument) (s : Session) (cells : ℕ) → Passed i s cells → (t m : ℕ) (part spare : List Float) (piano : Piano)
+    → sound_piano i.key_count t piano ≡ true
     → t + m ≤ end → length part ≡ part_cells i → scratch_cells i ≤ length spare
     → Renderable i part spare × (s.count ≤ 64) × PianoAt i.key_count piano t × (t + m < 18446744073709551616)
 unfolding scratch_cells
@@ -93,7 +96,8 @@ stored_all l vs l' e h =
 
 -- ---- play
 
-module _ (i : Instrument) (s : Session) (work spare out trace : List Float) (p : PlayPassed i s (length work) (length spare) (length out) (length trace)) (w : ℕ) (ew : w ≡ part_cells i) where
+module _ (i : Instrument) (s : Session) (work spare out trace : List Float)
+    (p : PlayPassed i s (length work) (length spare) (length out) (length trace)) (w : ℕ) (ew : w ≡ part_cells i) where
   pub play_ready : Renderable i (take w work) spare × (s.count ≤ 64) × PianoAt i.key_count s.piano s.t × (s.t + length out < 18446744073709551616)
   play_ready =
       let size = length-take-le w work (omega (arith, p.records.room)) ∙ ew in
@@ -227,7 +231,8 @@ module _ (i : Instrument) (s : Session) (work spare : List Float) (q : ℕ) (p :
 
 -- ---- insert and remove
 
-pub edited : (i : Instrument) (s : Session) (work : List Float) (q number : ℕ) (left : List TimedEvent) (t dropped : ℕ) (piano : Piano) (cues : List Cue) (work' : List Float)
+pub edited : (i : Instrument) (s : Session) (work : List Float) (q number : ℕ) (left : List TimedEvent) (t dropped : ℕ) (piano : Piano)
+    (cues : List Cue) (work' : List Float)
     → t ≡ settled s.t (kept_by s) q → dropped ≡ above q (kept_by s) → cues ≡ map (drop_above q) s.cues → Restores i s work t piano work'
     → Edits i s work q number left
     (record { answer = Ok (Edited t dropped); session = record { t = t; count = number; events = left; cues = cues; piano = piano } })

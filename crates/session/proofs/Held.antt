@@ -33,7 +33,8 @@ module _ (i : Instrument) (s : Session) (work : List Float) (x : ℕ) where
       record { piano = sym (ap (λ st. st.piano) h); memory = sym (ap (λ st. st.cells ++ drop (part_cells i) work) h ∙ take-append-drop (part_cells i) work) }
 
   module _ (away : x ≡ s.t → ⊥) (w : ℕ) (ew : w ≡ part_cells i) where
-    pub restored_cue : (slot : ℕ) → position (stands_at x) s.cues ≡ Some slot → (d : Cue) (work' : List Float) → work' ≡ splice 0 w (part ((slot + 1) * w) w work) work
+    pub restored_cue : (slot : ℕ) → position (stands_at x) s.cues ≡ Some slot → (d : Cue) (work' : List Float)
+        → work' ≡ splice 0 w (part ((slot + 1) * w) w work) work
         → Restores i s work x (get_or s.cues slot d).piano work'
     restored_cue slot found d work' e =
         let at = found_at (stands_at x) s.cues slot found in

@@ -1,5 +1,6 @@
--- Document 02, W2, "a count for each key": a piano has 16 places for counts, and those past the instrument's keys decide nothing. No event reads a count, a sample only the one that it
--- raises, and the sum, with it refusal 7, only the keys'. States alike but for those places run to states alike but for them, with the same samples and forces. Assumes nothing.
+-- Document 02, W2, "a count for each key": a piano has 16 places for counts, and those past the instrument's keys decide nothing. No event
+-- reads a count, a sample only the one that it raises, and the sum, with it refusal 7, only the keys'. States alike but for those places
+-- run to states alike but for them, with the same samples and forces. Assumes nothing.
 use Rattle.std.specs.Prelude.{◌≡◌, Bool, cond, ltb, take, get_or, Option, None, Some}
 use Rattle.std.specs.Option.{unwrap_or, option_map}
 use Rattle.std.proofs.Math.Path.{refl, sym, ap}
@@ -108,13 +109,15 @@ module _ (i : Instrument) where
   -- no event reads a count
   applied_of_keys : (e : Event) (s : State) → applied i (strings_of i) e (state_of_keys keys s) ≡ state_of_keys keys (applied i (strings_of i) e s)
   unfolding applied struck_key held_to hand_damped pedal_to
-  applied_of_keys (NoteOn x v) s = on_key_of_keys x (λ k s. record { piano = struck_key k v s.piano; cells = cleared_all k (strings_of i) s.cells }) s (λ k. refl)
+  applied_of_keys (NoteOn x v) s = on_key_of_keys x (λ k s. record { piano = struck_key k v s.piano; cells = cleared_all k (strings_of i) s.cells }) s
+      (λ k. refl)
   applied_of_keys (NoteOff x) s = on_key_of_keys x (λ k s. record { piano = held_to false k s.piano; cells = s.cells }) s (λ k. refl)
   applied_of_keys (Pedal b) s = refl
   applied_of_keys (HandDamp x) s = on_key_of_keys x (λ k s. record { piano = hand_damped k s.piano; cells = s.cells }) s (λ k. refl)
 
   -- nor do any, one after the other
-  apply_all_of_keys : (es : List Event) (s : State) → apply_all i (strings_of i) es (state_of_keys keys s) ≡ state_of_keys keys (apply_all i (strings_of i) es s)
+  apply_all_of_keys : (es : List Event) (s : State)
+      → apply_all i (strings_of i) es (state_of_keys keys s) ≡ state_of_keys keys (apply_all i (strings_of i) es s)
   unfolding apply_all
   apply_all_of_keys [] s = refl
   apply_all_of_keys (e ∷ es) s = ap (apply_all i (strings_of i) es) (applied_of_keys e s) ∙ apply_all_of_keys es (applied i (strings_of i) e s)
@@ -131,7 +134,8 @@ module _ (i : Instrument) where
       rw (apply_all_of_keys es s, counted_of_keys keys acted.piano.motion.hammer (sample_with i es t s).contact acted.piano.contact_samples) refl
 
   -- from states alike but for counts past the keys, a sample of a score leaves such states, and gives the same output and force
-  same_sample : (score : List TimedEvent) (t : ℕ) (s s' : State) → SameState i s s' → stepped_of_keys (sample_at i score t s) ≡ stepped_of_keys (sample_at i score t s')
+  same_sample : (score : List TimedEvent) (t : ℕ) (s s' : State) → SameState i s s'
+      → stepped_of_keys (sample_at i score t s) ≡ stepped_of_keys (sample_at i score t s')
   same_sample score t s s' e = sym (sample_of_keys (events_at score t) t s) ∙ ap (sample_at i score t) e ∙ sample_of_keys (events_at score t) t s'
 
   module _ (score : List TimedEvent) (t : ℕ) (s s' : State) (e : SameState i s s') where

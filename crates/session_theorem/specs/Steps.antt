@@ -1,5 +1,6 @@
 -- One call: the program that follows the machine follows it after the call too, and gives the machine's reply. Assumes nothing.
-use Rattle.std.specs.Prelude.{◌≡◌, Bool, true, false, cond, not, ◌⊎◌, List, ◌∷◌, ◌++◌, map, ℕ, zero, suc, ◌+◌, ◌-◌, ◌*◌, ◌<◌, ◌≤◌, eqb, leb, ltb, Float, take, get_or, set}
+use Rattle.std.specs.Prelude.{◌≡◌, Bool, true, false, cond, not, ◌⊎◌, List, ◌∷◌, ◌++◌, map, ℕ, zero, suc, ◌+◌, ◌-◌, ◌*◌, ◌<◌, ◌≤◌, eqb, leb, ltb}
+use Rattle.std.specs.Prelude.{Float, take, get_or, set}
 use Rattle.std.proofs.Math.Path.{refl, sym, ap}
 use Rattle.std.proofs.Common.{◌∙◌, inl, inr, ⊎_elim, arith, add-sub_of_le, eqb-true, leb-true, length-set, length-take-le, get_or-set_same, get_or-set_other}
 use Rattle.std.proofs.lemmas.Bool.{eqb-false}
@@ -31,7 +32,8 @@ use Rattle.session_record.specs.declared.Session.{Session}
 use Rattle.session_record.specs.Record.{score_of, play_number, cue_number, go_number, insert_number, remove_number}
 use Rattle.session_record.specs.Laws.{passed_cue}
 use Rattle.session.specs.declared.Outcome.{Outcome}
-use Rattle.session.specs.Calls.{kept_by, empty_cue, cue_at, state_now, held_at, refused_with, Plays, PlayMeets, Cues, CueMeets, Goes, GoMeets, Edits, InsertMeets, RemoveMeets}
+use Rattle.session.specs.Calls.{kept_by, empty_cue, cue_at, state_now, held_at, refused_with, Plays, PlayMeets, Cues, CueMeets, Goes, GoMeets, Edits}
+use Rattle.session.specs.Calls.{InsertMeets, RemoveMeets}
 use Rattle.session.specs.Laws.{get_any, rendered_length}
 use Rattle.session_theorem.specs.Runs.{reply_of, CallMeets, Follows}
 use Rattle.session_theorem.specs.Arrays.{placed_score, placed_long, removed_score, removed_long, free_slot_there}
@@ -74,7 +76,8 @@ refusal_same a b c e f = rw e f
 pub greatest_held : (q : ℕ) (l : List ℕ) → (greatest (up_to q l) ≡ 0) ⊎ (is_in (greatest (up_to q l)) l ≡ true)
 greatest_held q l =
     ⊎_elim (λ (z : greatest (up_to q l) ≡ 0). inl z)
-    (λ (z : is_in (greatest (up_to q l)) (up_to q l) ≡ true). inr (sym (in_up_to q (greatest (up_to q l)) l (greatest_up_to q l)) ∙ z)) (greatest_member (up_to q l))
+    (λ (z : is_in (greatest (up_to q l)) (up_to q l) ≡ true). inr (sym (in_up_to q (greatest (up_to q l)) l (greatest_up_to q l)) ∙ z))
+    (greatest_member (up_to q l))
 
 -- a block is the run from the render's state at its start
 module _ (i : Instrument) (score : List TimedEvent) (t m : ℕ) where
@@ -93,7 +96,8 @@ module _ (i : Instrument) (score : List TimedEvent) (t m : ℕ) where
 -- a call that leaves the cues and their parts alone: the first part and t are new
 module _ (i : Instrument) (s s' : Session) (work work' : List Float) (p p' : Machine) (g : Stands i s work p) (m : SoundMachine p') (st : State)
     (here : s' ≡ record { t = p'.t; count = s.count; events = s.events; cues = s.cues; piano = st.piano })
-    (memory : work' ≡ st.cells ++ drop (part_cells i) work) (right : st ≡ render_state i p.score p'.t) (same_score : p'.score ≡ p.score) (same_cues : p'.cues ≡ p.cues) where
+    (memory : work' ≡ st.cells ++ drop (part_cells i) work) (right : st ≡ render_state i p.score p'.t) (same_score : p'.score ≡ p.score)
+    (same_cues : p'.cues ≡ p.cues) where
   size : length st.cells ≡ part_cells i
   size = ap (λ x. length x.cells) right ∙ rendered_length i g.instrument p.score p'.t
 
@@ -158,7 +162,8 @@ module _ (i : Instrument) (s : Session) (work : List Float) (p : Machine) (g : S
           rw (f.score, f.position, f.now, ← render_then i p.score p.t m) (render_sum i p.score (valid_counts i g.instrument).few_keys (p.t + m))
 
       play_reply : reply_of r.answer out' trace'
-          ≡ Reply.played (length (block_forces i p.score p.t m)) (render_contacts i p.score (p.t + m)) (block_samples i p.score p.t m) (block_forces i p.score p.t m)
+          ≡ Reply.played (length (block_forces i p.score p.t m)) (render_contacts i p.score (p.t + m)) (block_samples i p.score p.t m)
+          (block_forces i p.score p.t m)
       play_reply =
           rw (d.answer, front_now (length pushed) pushed _ trace' d.pushes refl, counted_is, pushed_is, sounded_is)
 
@@ -228,7 +233,8 @@ module _ (i : Instrument) (s : Session) (work : List Float) (p : Machine) (g : S
               score = rw here f.score;
               position = rw here f.position;
               cues = λ t. rw here
-                  (kept_set s.cues slot new (empty_cue s.piano) (omega (arith, g.four, slot_low)) (free_slot_free s.cues (empty_cue s.piano) (omega (arith, g.four, slot_low))) refl t
+                  (kept_set s.cues slot new (empty_cue s.piano) (omega (arith, g.four, slot_low))
+                  (free_slot_free s.cues (empty_cue s.piano) (omega (arith, g.four, slot_low))) refl t
                   ∙ ap (λ x. count t (x ∷ kept_by s)) f.position ∙ same_cons p.t (kept_by s) p.cues f.cues t);
               now = rw (here, slot_now (part_cells i) slot (take (part_cells i) work) work work' (d.adds absent).1 first slot_low g.room) f.now;
               held = λ j l k. rw here (slot_held j l (rw here at k));
@@ -253,8 +259,10 @@ module _ (i : Instrument) (s : Session) (work : List Float) (p : Machine) (g : S
         by_refusal i s work p _ (cue_refusal p.t p.cues) (named_test (leb 4 (others p.t p.cues)) 15 refl) _ r work' out trace g cue_same h.refuses
         (λ z.
         let d = h.accepts z in
-        let m = sym cue_same ∙ z in
-        (cue_stands (is_in p.t p.cues) refl d (passed_cue i s (length work) z).free (rw m at (sound_does p g.machine i Call.cue)), ap (λ a. reply_of a out trace) d.answer))
+        let m = sym cue_same ∙ z in (
+          cue_stands (is_in p.t p.cues) refl d (passed_cue i s (length work) z).free (rw m at (sound_does p g.machine i Call.cue)),
+          ap (λ a. reply_of a out trace) d.answer,
+        ))
 
   -- ---- go
   module _ (scratch q : ℕ) (work' out trace : List Float) (r : Outcome) (h : GoMeets i s work scratch q r work') where
@@ -264,7 +272,8 @@ module _ (i : Instrument) (s : Session) (work : List Float) (p : Machine) (g : S
     start_same : start_of s.t (kept_by s) q ≡ start
     start_same =
         ap (λ t. start_of t (kept_by s) q) f.position
-        ∙ greatest_same (up_to q (p.t ∷ kept_by s)) (up_to q (p.t ∷ p.cues)) (same_up_to q (p.t ∷ kept_by s) (p.t ∷ p.cues) (same_cons p.t (kept_by s) p.cues f.cues))
+        ∙ greatest_same (up_to q (p.t ∷ kept_by s)) (up_to q (p.t ∷ p.cues))
+        (same_up_to q (p.t ∷ kept_by s) (p.t ∷ p.cues) (same_cons p.t (kept_by s) p.cues f.cues))
 
     go_same : go_number i s (length work) scratch q ≡ go_refusal i scratch q start
     go_same = refusal_same _ _ _ (standing_passes i s work p g) (ap (go_refusal i scratch q) start_same)
@@ -274,8 +283,10 @@ module _ (i : Instrument) (s : Session) (work : List Float) (p : Machine) (g : S
       go_stands =
           let x = start_of s.t (kept_by s) q in
           let low : x + (q - x) ≡ q = add-sub_of_le (greatest_up_to q (s.t ∷ kept_by s)) in
-          moved i s r.session work work' p (record { score = p.score; t = q; cues = p.cues }) g sound (run i (score_of s) x (q - x) (held_at i s work x)) d.session d.memory
-          (rw (f.score, held_render i s work p g x (greatest_held q (s.t ∷ kept_by s))) (sym (render_then i p.score x (q - x)) ∙ ap (render_state i p.score) low)) refl refl
+          moved i s r.session work work' p (record { score = p.score; t = q; cues = p.cues }) g sound
+          (run i (score_of s) x (q - x) (held_at i s work x)) d.session d.memory
+          (rw (f.score, held_render i s work p g x (greatest_held q (s.t ∷ kept_by s)))
+          (sym (render_then i p.score x (q - x)) ∙ ap (render_state i p.score) low)) refl refl
 
     go_step : Stands i r.session work' (does i p (Call.go scratch q)).0 × (reply_of r.answer out trace ≡ (does i p (Call.go scratch q)).1)
     unfolding does_to
@@ -300,10 +311,12 @@ module _ (i : Instrument) (s : Session) (work : List Float) (p : Machine) (g : S
     t_held : (settled s.t (kept_by s) q ≡ 0) ⊎ (is_in (settled s.t (kept_by s) q) (s.t ∷ kept_by s) ≡ true)
     t_held = go (ltb q s.t) refl
       where
-        go : (b : Bool) → ltb q s.t ≡ b → (cond b (greatest (up_to q (kept_by s))) s.t ≡ 0) ⊎ (is_in (cond b (greatest (up_to q (kept_by s))) s.t) (s.t ∷ kept_by s) ≡ true)
+        go : (b : Bool) → ltb q s.t ≡ b
+            → (cond b (greatest (up_to q (kept_by s))) s.t ≡ 0) ⊎ (is_in (cond b (greatest (up_to q (kept_by s))) s.t) (s.t ∷ kept_by s) ≡ true)
         go true e =
             ⊎_elim (λ (z : greatest (up_to q (kept_by s)) ≡ 0). inl z)
-            (λ (z : is_in (greatest (up_to q (kept_by s))) (kept_by s) ≡ true). inr (in_cons (greatest (up_to q (kept_by s))) s.t (kept_by s) z)) (greatest_held q (kept_by s))
+            (λ (z : is_in (greatest (up_to q (kept_by s))) (kept_by s) ≡ true). inr (in_cons (greatest (up_to q (kept_by s))) s.t (kept_by s) z))
+            (greatest_held q (kept_by s))
         go false e = inr (in_front s.t (kept_by s))
 
     render_alike : (x : ℕ) → x ≤ q → render_state i p.score x ≡ render_state i score' x
@@ -342,7 +355,10 @@ module _ (i : Instrument) (s : Session) (work : List Float) (p : Machine) (g : S
         }
       where
         slot_held : (j : ℕ) → j < 4 → (get_or (map (drop_above q) s.cues) j (empty_cue (held_at i s work t').piano)).kept ≡ true
-            → record { piano = (get_or (map (drop_above q) s.cues) j (empty_cue (held_at i s work t').piano)).piano; cells = part ((j + 1) * part_cells i) (part_cells i) work }
+            → record {
+              piano = (get_or (map (drop_above q) s.cues) j (empty_cue (held_at i s work t').piano)).piano;
+              cells = part ((j + 1) * part_cells i) (part_cells i) work;
+            }
             ≡ render_state i score' (get_or (map (drop_above q) s.cues) j (empty_cue (held_at i s work t').piano)).position
         slot_held j l k =
             let there : j < length (map (drop_above q) s.cues) = omega (arith, length-map s.cues (drop_above q), g.four) in
