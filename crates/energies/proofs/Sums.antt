@@ -68,7 +68,8 @@ module _ (k : ℕ) where
   pub key_sum : (ds : List StringDesign) (cells : List Float) → k < 16 → get_or (sums_after ds cells (replicate 16 +0)) k nan ≡ sum_from +0 (of_key k ds cells)
   unfolding sums_after
   key_sum ds cells h =
-      key_sum_from 0 ds cells (replicate 16 +0) (rw (length-replicate 16 +0) h) ∙ ap (λ (a : Float). sum_from a (of_key k ds cells)) (get_or-replicate 16 k +0 nan h)
+      key_sum_from 0 ds cells (replicate 16 +0) (rw (length-replicate 16 +0) h)
+      ∙ ap (λ (a : Float). sum_from a (of_key k ds cells)) (get_or-replicate 16 k +0 nan h)
 
 -- ---- the pairs
 

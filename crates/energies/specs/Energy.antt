@@ -1,5 +1,6 @@
--- Document 01, "The session": "`key_energies` as in the Rust, one pair a key in file order, returned by value with zeros past the last key", after refusals 7 and 8. The Rust sums `v * v` over
--- the cells of a line, that over the lines a_r, a_l, b_r, b_l, c_r, c_l of a string, that over a key's strings; sums start at +0. Definitions only: assumes nothing.
+-- Document 01, "The session": "`key_energies` as in the Rust, one pair a key in file order, returned by value with zeros past the last
+-- key", after refusals 7 and 8. The Rust sums `v * v` over the cells of a line, that over the lines a_r, a_l, b_r, b_l, c_r, c_l of a
+-- string, that over a key's strings; sums start at +0. Definitions only: assumes nothing.
 use Rattle.std.specs.Prelude.{◌≡◌, Bool, cond, List, [], ◌∷◌, ◌++◌, map, ℕ, eqb, length, take, drop, Result, Ok, Err, Float}
 use Rattle.std.specs.Float.{binary64}
 use Rattle.std.specs.Float.Ieee.{add, mul}

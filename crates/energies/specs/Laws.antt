@@ -10,7 +10,8 @@ use Rattle.energies.specs.declared.Energies.{Energies}
 use Rattle.energies.specs.Energy.{energies_of, no_energies_for, EnergiesMeet}
 
 -- two memories of one length whose first parts are alike
-pub first_part_decides : (i : Instrument) (s : Session) (work other : List Float) (r q : Result Energies Refusal) → length work ≡ length other → take (part_cells i) work ≡ take (part_cells i) other
+pub first_part_decides : (i : Instrument) (s : Session) (work other : List Float) (r q : Result Energies Refusal)
+    → length work ≡ length other → take (part_cells i) work ≡ take (part_cells i) other
     → EnergiesMeet i s work r → EnergiesMeet i s other q → r ≡ q
 first_part_decides i s work other r q n e a b = by_refusal (record_refusal i s (length work)) refl
   where

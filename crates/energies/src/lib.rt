@@ -1,5 +1,5 @@
-// Document 01, "The session": `key_energies` as in the Rust. A line's energy is the sum of its cells' squares, a string's that of its six lines, a key's that of its strings; each sum
-// starts at +0 and goes in the Rust's order. Work memory is lent shared: nothing changes.
+// Document 01, "The session": `key_energies` as in the Rust. A line's energy is the sum of its cells' squares, a string's that of its six
+// lines, a key's that of its strings; each sum starts at +0 and goes in the Rust's order. Work memory is lent shared: nothing changes.
 #![tactic(auto)]
 
 ghost use Rattle.std.specs.Prelude.{◌≡◌, true, ◌+◌, ◌≤◌, length};

@@ -64,7 +64,8 @@ module _ {step : ℕ → State → Stepped} where
         let f₂ = forces_by step (t + a.done + n₁) n₂ s₁ in
         let vs : samples_by step (t + a.done) (d.done - a.done) a.state ≡ v₁ ++ v₂ =
         rw n (values_add next (λ u x. (step u x).out ∷ []) (t + a.done) n₁ n₂ a.state) in
-        let fs : forces_by step (t + a.done) (d.done - a.done) a.state ≡ f₁ ++ f₂ = rw n (values_add next (λ u x. (step u x).force) (t + a.done) n₁ n₂ a.state) in
+        let fs : forces_by step (t + a.done) (d.done - a.done) a.state ≡ f₁ ++ f₂ =
+        rw n (values_add next (λ u x. (step u x).force) (t + a.done) n₁ n₂ a.state) in
         let l : b.done ≡ a.done + length v₁ = omega (arith, values_length next (λ u x. (step u x).out) (t + a.done) n₁ a.state) in
         let st : d.state ≡ state_by step (t + a.done + n₁) n₂ s₁ = rw (ab.state, place) at bd.state in
         let ot : d.out ≡ sets (sets a.out a.done v₁) b.done v₂ = rw (ab.outs, ab.state, place) at bd.outs in
@@ -85,7 +86,8 @@ module _ {step : ℕ → State → Stepped} where
   advanced_lengths {t} {a} {b} w = (ap length w.outs ∙ simp length-sets, ap length w.traced ∙ simp length-sets)
 
 -- a render from the start of its buffers, m samples done, is the promise of `render`
-pub advanced_rendered : (i : Instrument) (score : List TimedEvent) (t m : ℕ) {p : Piano} {w o tr : List Float} {b : Rendering} → Advanced (sample_at i score) t (unstarted p w o tr) b
+pub advanced_rendered : (i : Instrument) (score : List TimedEvent) (t m : ℕ) {p : Piano} {w o tr : List Float} {b : Rendering}
+    → Advanced (sample_at i score) t (unstarted p w o tr) b
     → b.done ≡ m → Rendered i score t m (unstarted p w o tr) b
 advanced_rendered i score t m {b = b} w h =
     let z : b.done - 0 ≡ m = omega arith in
@@ -100,7 +102,8 @@ advanced_rendered i score t m {b = b} w h =
 -- ---- one turn of the loop over samples
 
 module _ (m : Model) (down : ℕ → Bool) (t : ℕ) (p : Piano) (w : List Float) (done pushed : ℕ)
-    (step : Step) (e : step ≡ sampled m down (t + done) p.damper_r p.motion w) (counts : List ℕ) (hc : counts ≡ counted_for p.motion.hammer step.contact p.contact_samples)
+    (step : Step) (e : step ≡ sampled m down (t + done) p.damper_r p.motion w) (counts : List ℕ)
+    (hc : counts ≡ counted_for p.motion.hammer step.contact p.contact_samples)
     (pushed' : ℕ) (hp : pushed' ≡ pushed + length step.force) where
   -- the code's run where the loop stands, and a sample on
   abbrev before : Run
@@ -132,11 +135,15 @@ module _ (m : Model) (down : ℕ → Bool) (t : ℕ) (p : Piano) (w : List Float
       record {
         below = omega arith;
         end = r.end;
-        piano = record { within = omega (arith, count, r.piano.within); hammer = rw (← e) at (sampled_on keys m down (t + done) p.damper_r p.motion w r.piano.hammer) };
+        piano = record {
+          within = omega (arith, count, r.piano.within);
+          hammer = rw (← e) at (sampled_on keys m down (t + done) p.damper_r p.motion w r.piano.hammer);
+        };
         pushes = omega (arith, r.pushes);
       }
 
-  pub one_turn : {keys stop : ℕ} {out trace out' trace' : List Float} → InRange keys before t stop → done < stop → out' ≡ set out done step.out → trace' ≡ sets trace pushed step.force
+  pub one_turn : {keys stop : ℕ} {out trace out' trace' : List Float} → InRange keys before t stop → done < stop
+      → out' ≡ set out done step.out → trace' ≡ sets trace pushed step.force
       → Advanced (stepped m down) t (rendering_of before w out trace) (rendering_of after step.cells out' trace') × InRange keys after t stop
   one_turn r more ho ht = (turn_advanced ho ht, turn_in_range r more)
 
@@ -167,7 +174,8 @@ module _ (i : Instrument) (score : List TimedEvent) (t : ℕ) (s e : State) (D :
   unfolding sample_with apply_all
   later_same u x h q = rw q (down_same u x h)
 
-  pub sample_same : (n : ℕ) → ((u : ℕ) → t + 1 ≤ u → u < t + suc n → events_at score u ≡ []) → sample_at i score (t + n) (run i score t n s) ≡ still (t + n) (state_by still t n e)
+  pub sample_same : (n : ℕ) → ((u : ℕ) → t + 1 ≤ u → u < t + suc n → events_at score u ≡ [])
+      → sample_at i score (t + n) (run i score t n s) ≡ still (t + n) (state_by still t n e)
   unfolding state_after
   sample_same zero none = rw (add-zero t) first_same
   sample_same (suc n) none =
@@ -226,7 +234,8 @@ module _ {i : Instrument} {part scratch : List Float} (can : Renderable i part s
         let st : run i score u n S ≡ state_by still u n E = rw more (ap (λ (x : Stepped). x.state) (same (n - 1) (omega (arith, q.more, stopped)))) in
         let listed : (g : Stepped → List Float) → values_of (λ x y. (sample_at i score x y).state) (λ x y. g (sample_at i score x y)) u n S
         ≡ values_of (λ x y. (still x y).state) (λ x y. g (still x y)) u n E =
-        λ g. values_each (λ x y. (sample_at i score x y).state) (λ x y. (still x y).state) u S (λ x y. g (sample_at i score x y)) (λ x y. g (still x y)) E n (λ k h. ap g (same k h)) in
+        λ g. values_each (λ x y. (sample_at i score x y).state) (λ x y. (still x y).state) u S (λ x y. g (sample_at i score x y))
+        (λ x y. g (still x y)) E n (λ k h. ap g (same k h)) in
         record {
           from = went.from;
           state = went.state ∙ sym st;

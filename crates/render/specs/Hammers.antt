@@ -1,4 +1,5 @@
--- A hammer that a render has moving is on a key that is there: a strike starts it on one, and no sample moves it to another. Refusal 7 asks it of a session's piano. Assumes nothing.
+-- A hammer that a render has moving is on a key that is there: a strike starts it on one, and no sample moves it to another. Refusal 7
+-- asks it of a session's piano. Assumes nothing.
 use Rattle.std.specs.Prelude.{◌≡◌, Bool, cond, Option, None, Some, unwrap_or, option_map, Float}
 use Rattle.std.proofs.Math.Path.{refl}
 use Rattle.std.proofs.Math.Bool.{true, false}
@@ -42,7 +43,8 @@ module _ (keys : ℕ) where
       by_test f.any_contact (lt v +0) (add binary64 h.y_h (mul binary64 c.dt v)) v
     where
       by_test : (a b : Bool) (y v : Float)
-          → OnKey keys (cond a (Some (record { key_index = h.key_index; y_h = y; v_h = v })) (cond b None (Some (record { key_index = h.key_index; y_h = y; v_h = v }))))
+          → OnKey keys (cond a (Some (record { key_index = h.key_index; y_h = y; v_h = v }))
+          (cond b None (Some (record { key_index = h.key_index; y_h = y; v_h = v }))))
       by_test true b y v = o
       by_test false true y v = refl
       by_test false false y v = o

@@ -150,7 +150,8 @@ stretch_step s m = stepped m (λ k. get_or s.down k false)
 
 -- The stretch that follows a run of a score: the events at the run's next sample act on the cells too, and no event lies behind that sample.
 pub record NextStretch (i : Instrument) (score : List TimedEvent) (t m : ℕ) (r : Run) (cells cells' : List Float) (s : Stretch) : Type 0 where
-  pub acted : record { piano = s.run.piano; cells = cells' } ≡ apply_all i (strings_of i) (events_at score (t + r.done)) (record { piano = r.piano; cells = cells })
+  pub acted : record { piano = s.run.piano; cells = cells' } ≡ apply_all i (strings_of i) (events_at score (t + r.done))
+      (record { piano = r.piano; cells = cells })
   pub down : AllDown i s.run.piano s.down
   pub start : s.t ≡ t
   pub done : s.run.done ≡ r.done

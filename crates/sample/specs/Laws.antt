@@ -1,5 +1,5 @@
--- Only a hammer that flies is in contact; a sample pushes one force at most, bounded as the contacts' forces are; it reads of `down` only the keys there are, and of the
--- lent cells asks only their number.
+-- Only a hammer that flies is in contact; a sample pushes one force at most, bounded as the contacts' forces are; it reads of `down` only
+-- the keys there are, and of the lent cells asks only their number.
 use Rattle.std.proofs.Math.Path.{◌≡◌}
 use Rattle.std.proofs.Common.{ap, subst}
 use Rattle.std.specs.Prelude.{Bool, List, [], ◌∷◌, ℕ, ◌≤◌, ◌<◌, T, get_or, Option, None, Some, is_some, option_map, option_to_list, Float}
@@ -52,8 +52,8 @@ module _ (m : Model) (down : ℕ → Bool) (t : ℕ) (R : List Float) (motion : 
   abbrev bound : Float
   bound = point_bound m.constants motion.hammer m.strings v w' +0
 
-  -- Document 02, W6, summed: a force f that the sample pushes lies from 0 to the sum of the bounds of the strings that the hammer is at, rounded at each string as the
-  -- forces' sum is
+  -- Document 02, W6, summed: a force f that the sample pushes lies from 0 to the sum of the bounds of the strings that the hammer is at,
+  -- rounded at each string as the forces' sum is
   pub sampled_bound : T (positive (c1_of m.constants)) → TopsFit m.constants motion.hammer m.strings v w'
       → (f : Float) → (sampled m down t R motion w).force ≡ f ∷ [] → T (le +0 f) × T (le f bound)
   unfolding sampled
@@ -63,6 +63,7 @@ module _ (m : Model) (down : ℕ → Bool) (t : ℕ) (R : List Float) (motion : 
       none : ◌≡◌ {A = ℕ} 0 1 → ⊥
       none h = omega arith
 
-      by_hammer : (h : Option Flight) (s : Float) → option_to_list (option_map (λ _. s) h) ≡ f ∷ [] → T (le +0 s) × T (le s bound) → T (le +0 f) × T (le f bound)
+      by_hammer : (h : Option Flight) (s : Float) → option_to_list (option_map (λ _. s) h) ≡ f ∷ [] → T (le +0 s) × T (le s bound)
+          → T (le +0 f) × T (le f bound)
       by_hammer (Some h) s e k = subst (λ (x : Float). T (le +0 x) × T (le x bound)) (ap (λ (l : List Float). get_or l 0 +0) e) k
       by_hammer None s e k = absurd (none (ap length e))

@@ -59,19 +59,22 @@ strings_fit i few most = record { few = rw (list_length (string_in i) 0 i.string
         rw (list_at (string_in i) 0 i.string_count j past_design below, zero-add j) r
 
 -- a filled table has the instrument's strings in front
-pub filled_strings : (i : Instrument) (designs : List StringDesign) → length designs ≡ 32 → i.string_count ≤ 32 → StringsFilled i designs → take i.string_count designs ≡ strings_of i
+pub filled_strings : (i : Instrument) (designs : List StringDesign) → length designs ≡ 32 → i.string_count ≤ 32
+    → StringsFilled i designs → take i.string_count designs ≡ strings_of i
 filled_strings i designs long most f =
     list_is (string_in i) i.string_count (take i.string_count designs) past_design (simp length-take (omega (arith, long)))
     (λ k h. get_or-take i.string_count designs k past_design h ∙ f.each k h)
 
 -- and of keys, the keys
-pub filled_keys : (i : Instrument) (keys : List KeyConstants) → length keys ≡ 16 → i.key_count ≤ 16 → KeysFilled i keys → take i.key_count keys ≡ list_from (key_in i) 0 i.key_count
+pub filled_keys : (i : Instrument) (keys : List KeyConstants) → length keys ≡ 16 → i.key_count ≤ 16 → KeysFilled i keys
+    → take i.key_count keys ≡ list_from (key_in i) 0 i.key_count
 filled_keys i keys long most f =
     list_is (key_in i) i.key_count (take i.key_count keys) past_constants (simp length-take (omega (arith, long)))
     (λ k h. get_or-take i.key_count keys k past_constants h ∙ f.each k h)
 
 -- so filled tables are the model
-module _ (i : Instrument) {constants : Constants} {keys : List KeyConstants} {designs : List StringDesign} (few : i.key_count ≤ 16) (most : i.string_count ≤ 32) where
+module _ (i : Instrument) {constants : Constants} {keys : List KeyConstants} {designs : List StringDesign}
+    (few : i.key_count ≤ 16) (most : i.string_count ≤ 32) where
   pub filled_model : constants ≡ constants_of i.common → length keys ≡ 16 → KeysFilled i keys → length designs ≡ 32 → StringsFilled i designs
       → ◌≡◌ {A = Model} (record { constants = constants; keys = take i.key_count keys; strings = take i.string_count designs }) (model_of i)
   filled_model e long k wide d = rw (e, filled_keys i keys long few k, filled_strings i designs wide most d)

@@ -1,5 +1,5 @@
--- Document 02, W2: "a count for each key in place of the one count". The sum over an instrument's keys, which titles follow: places past them decide nothing. And the key of the
--- hammer, which a sample in contact counts for. Definitions only.
+-- Document 02, W2: "a count for each key in place of the one count". The sum over an instrument's keys, which titles follow: places past
+-- them decide nothing. And the key of the hammer, which a sample in contact counts for. Definitions only.
 use Rattle.std.specs.Prelude.{◌≡◌, Bool, true, List, ℕ, leb, ltb, Option, None, Some, is_some, IfSome}
 use Rattle.counting.specs.Sums.{sum_of}
 use Rattle.points.specs.declared.Flight.{Flight}

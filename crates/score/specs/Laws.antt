@@ -1,6 +1,7 @@
 -- What events keep, which samples have none, and what a sample in contact makes of the keys' counts.
 use Rattle.float.specs.Float.{zero as +0}
-use Rattle.std.specs.Prelude.{◌≡◌, refl, List, [], ◌∷◌, Bool, cond, ℕ, suc, ◌+◌, ◌≤◌, ◌<◌, ◌^◌, eqb, ltb, length, set, Option, None, Some, IfSome, unwrap_or, option_map, map, filter, min, nat_le, Float}
+use Rattle.std.specs.Prelude.{◌≡◌, refl, List, [], ◌∷◌, Bool, cond, ℕ, suc, ◌+◌, ◌≤◌, ◌<◌, ◌^◌, eqb, ltb, length, set, Option, None, Some}
+use Rattle.std.specs.Prelude.{IfSome, unwrap_or, option_map, map, filter, min, nat_le, Float}
 use Rattle.std.specs.List.{fold, reduce}
 use Rattle.std.proofs.Common.{◌∙◌, length-set, leb-true, leb-false}
 use Rattle.std.proofs.lemmas.Option.{none-some, same_Some, cond_some}
@@ -49,26 +50,33 @@ applied_count : (i : Instrument) (ds : List StringDesign) (e : Event) (s : State
 unfolding applied struck_key held_to hand_damped pedal_to
 applied_count i ds (NoteOn x v) s =
     on_key_lem (λ (z : State). z.piano.contact_samples) i x (λ k s. record { piano = struck_key k v s.piano; cells = cleared_all k ds s.cells }) s (λ k. refl)
-applied_count i ds (NoteOff x) s = on_key_lem (λ (z : State). z.piano.contact_samples) i x (λ k s. record { piano = held_to false k s.piano; cells = s.cells }) s (λ k. refl)
+applied_count i ds (NoteOff x) s = on_key_lem (λ (z : State). z.piano.contact_samples) i x
+    (λ k s. record { piano = held_to false k s.piano; cells = s.cells }) s (λ k. refl)
 applied_count i ds (Pedal b) s = refl
-applied_count i ds (HandDamp x) s = on_key_lem (λ (z : State). z.piano.contact_samples) i x (λ k s. record { piano = hand_damped k s.piano; cells = s.cells }) s (λ k. refl)
+applied_count i ds (HandDamp x) s = on_key_lem (λ (z : State). z.piano.contact_samples) i x
+    (λ k s. record { piano = hand_damped k s.piano; cells = s.cells }) s (λ k. refl)
 
-pub apply_all_count : (i : Instrument) (ds : List StringDesign) (es : List Event) (s : State) → (apply_all i ds es s).piano.contact_samples ≡ s.piano.contact_samples
+pub apply_all_count : (i : Instrument) (ds : List StringDesign) (es : List Event) (s : State)
+    → (apply_all i ds es s).piano.contact_samples ≡ s.piano.contact_samples
 unfolding apply_all
 apply_all_count i ds [] s = refl
 apply_all_count i ds (e ∷ es) s = apply_all_count i ds es (applied i ds e s) ∙ applied_count i ds e s
 
 -- events keep the number of cells
-applied_length : (i : Instrument) (ds : List StringDesign) (e : Event) (s : State) → cells_of ds ≤ length s.cells → length (applied i ds e s).cells ≡ length s.cells
+applied_length : (i : Instrument) (ds : List StringDesign) (e : Event) (s : State) → cells_of ds ≤ length s.cells
+    → length (applied i ds e s).cells ≡ length s.cells
 unfolding applied
 applied_length i ds (NoteOn x v) s h =
     on_key_lem (λ (z : State). length z.cells) i x (λ k s. record { piano = struck_key k v s.piano; cells = cleared_all k ds s.cells }) s
     (λ k. map_length size_of (cleared_one k) (λ j d p e. cleared_length k d p ∙ e) 0 ds s.cells h)
-applied_length i ds (NoteOff x) s h = on_key_lem (λ (z : State). length z.cells) i x (λ k s. record { piano = held_to false k s.piano; cells = s.cells }) s (λ k. refl)
+applied_length i ds (NoteOff x) s h = on_key_lem (λ (z : State). length z.cells) i x
+    (λ k s. record { piano = held_to false k s.piano; cells = s.cells }) s (λ k. refl)
 applied_length i ds (Pedal b) s h = refl
-applied_length i ds (HandDamp x) s h = on_key_lem (λ (z : State). length z.cells) i x (λ k s. record { piano = hand_damped k s.piano; cells = s.cells }) s (λ k. refl)
+applied_length i ds (HandDamp x) s h = on_key_lem (λ (z : State). length z.cells) i x
+    (λ k s. record { piano = hand_damped k s.piano; cells = s.cells }) s (λ k. refl)
 
-pub apply_all_length : (i : Instrument) (ds : List StringDesign) (es : List Event) (s : State) → cells_of ds ≤ length s.cells → length (apply_all i ds es s).cells ≡ length s.cells
+pub apply_all_length : (i : Instrument) (ds : List StringDesign) (es : List Event) (s : State) → cells_of ds ≤ length s.cells
+    → length (apply_all i ds es s).cells ≡ length s.cells
 unfolding apply_all
 apply_all_length i ds [] s h = refl
 apply_all_length i ds (e ∷ es) s h =
@@ -92,7 +100,8 @@ min_low : (low a : ℕ) (xs : List ℕ) → low ≤ a → low ≤ fold min a (fi
 min_low low a [] h = h
 min_low low a (x ∷ xs) h = by_test (nat_le low x) refl (min_low low (min a x) xs) (min_low low a xs h)
   where
-    by_test : (b : Bool) → nat_le low x ≡ b → (low ≤ min a x → low ≤ fold min (min a x) (filter (λ p. nat_le low p) xs)) → low ≤ fold min a (filter (λ p. nat_le low p) xs)
+    by_test : (b : Bool) → nat_le low x ≡ b → (low ≤ min a x → low ≤ fold min (min a x) (filter (λ p. nat_le low p) xs))
+        → low ≤ fold min a (filter (λ p. nat_le low p) xs)
         → low ≤ fold min a (cond b (x ∷ filter (λ p. nat_le low p) xs) (filter (λ p. nat_le low p) xs))
     by_test true e more rest = more (omega (arith, leb-true low x e))
     by_test false e more rest = rest

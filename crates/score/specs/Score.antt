@@ -1,5 +1,6 @@
 -- Document 01: "Each timed event holds a position and one of these four." The events that act on sample t are those at t: in a render from silence,
--- sample by sample, those "whose position is not above t" that have not acted yet are these (`walk_is` in Due.antt, of every sound score `sound_walk` in crate score_edits).
+-- sample by sample, those "whose position is not above t" that have not acted yet are these (`walk_is` in Due.antt, of every sound score
+-- `sound_walk` in crate score_edits).
 use Rattle.std.specs.Prelude.{List, [], ◌∷◌, map, filter, cond, ℕ, min, eqb, nat_le, take, Option}
 use Rattle.std.specs.List.{reduce}
 use Rattle.std.specs.Float.{nan}

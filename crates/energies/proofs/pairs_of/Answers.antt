@@ -32,4 +32,5 @@ returns c =
     let at = c.args in
     let long : length at.instrument.keys ≡ 16 = search rules in
     let there = length-take-le at.instrument.key_count at.instrument.keys (omega (arith, long, c.requires)) in
-    c.loop-k.invariant ∙ ap (λ (m : ℕ). pad 16 no_energy (tabulate m (pair_of at.instrument at.sums.now))) (omega (arith, there, c.loop-k-test.false, c.loop-k.auto.k-end))
+    c.loop-k.invariant ∙ ap (λ (m : ℕ). pad 16 no_energy (tabulate m (pair_of at.instrument at.sums.now)))
+    (omega (arith, there, c.loop-k-test.false, c.loop-k.auto.k-end))

@@ -1,4 +1,5 @@
--- `energies::sum_strings` meets its contract. The invariant: the strings before this one are done, and what is left to do gives what the whole walk gives. Assumes nothing.
+-- `energies::sum_strings` meets its contract. The invariant: the strings before this one are done, and what is left to do gives what the
+-- whole walk gives. Assumes nothing.
 use mathlib.Core.Path.{ap}
 use lib.ListN.{get_or, set}
 use lib.Ieee.{Float, nan, binary64, add}

@@ -1,4 +1,5 @@
--- `energies::sum_strings` meets its contract. The invariant: the strings before this one are done, and what is left to do gives what the whole walk gives. Assumes nothing.
+-- `energies::sum_strings` meets its contract. The invariant: the strings before this one are done, and what is left to do gives what the
+-- whole walk gives. Assumes nothing.
 use Rattle.strings.specs.Walk.{WalkAt}
 use Rattle.energies.specs.Steps.{summed_into}
 use Rattle.energies.proofs.Sums.{kept}

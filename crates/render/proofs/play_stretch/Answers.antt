@@ -85,7 +85,8 @@ returns c =
     let stopped : here.done ≡ s.stop = omega (arith, c.loop-done-test.false, here.invariant.in_range.below) in
     let all_done = ap (λ (done : ℕ). record { piano = here.piano; done = done; pushed = here.pushed }) stopped in
     let from = rendering_of s.run at.part.now at.out.now at.trace.now in (
-      subst (λ (r : Run). Advanced (stretch_step s (model_at at.tables)) s.t from (rendering_of r here.part here.out here.trace)) all_done here.invariant.advanced,
+      subst (λ (r : Run). Advanced (stretch_step s (model_at at.tables)) s.t from (rendering_of r here.part here.out here.trace))
+          all_done here.invariant.advanced,
       refl,
       subst (λ (r : Run). InRange (length at.tables.keys.now) r s.t s.stop) all_done here.invariant.in_range,
     )

@@ -1,5 +1,6 @@
--- `render::play_stretch` meets its contract. The loop's invariant: the render went on from the stretch's start to the run so far, whose counts are in range; part and
--- scratch have as many cells as before; the indices are those of the next sample's position. Assumes nothing.
+-- `render::play_stretch` meets its contract. The loop's invariant: the render went on from the stretch's start to the run so far, whose
+-- counts are in range; part and scratch have as many cells as before; the indices are those of the next sample's position. Assumes
+-- nothing.
 use mathlib.Core.Path.{◌≡◌}
 use mathlib.Core.Bool.{false}
 use Prim.Native.Nat.{◌+◌, ◌≤◌}

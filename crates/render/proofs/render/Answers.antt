@@ -1,5 +1,6 @@
--- `render::render` meets its contract. The loop's invariant: the render went on from its start to the run so far, by the score's samples; the run's counts are in
--- range; part and scratch have as many cells as before. A turn is a stretch, whose samples are the score's by `stretch_advanced`. Assumes nothing.
+-- `render::render` meets its contract. The loop's invariant: the render went on from its start to the run so far, by the score's samples;
+-- the run's counts are in range; part and scratch have as many cells as before. A turn is a stretch, whose samples are the score's by
+-- `stretch_advanced`. Assumes nothing.
 use mathlib.Core.Path.{◌≡◌, refl, ◌∙◌}
 use native.Mathlib.Nat.{add-zero}
 use native.Mathlib.Omega.{arith}
@@ -97,4 +98,5 @@ shape_of-trace c = (advanced_lengths c.loop-run.invariant.advanced).1
 pub returns : goal.returns
 returns c =
     let at = c.args in
-    advanced_rendered at.instrument (events_of at.score) at.t at.m c.loop-run.invariant.advanced (omega (arith, c.loop-run-test.false, c.loop-run.invariant.in_range.below))
+    advanced_rendered at.instrument (events_of at.score) at.t at.m c.loop-run.invariant.advanced
+    (omega (arith, c.loop-run-test.false, c.loop-run.invariant.in_range.below))

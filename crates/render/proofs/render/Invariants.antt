@@ -1,5 +1,6 @@
--- `render::render` meets its contract. The loop's invariant: the render went on from its start to the run so far, by the score's samples; the run's counts are in
--- range; part and scratch have as many cells as before. A turn is a stretch, whose samples are the score's by `stretch_advanced`. Assumes nothing.
+-- `render::render` meets its contract. The loop's invariant: the render went on from its start to the run so far, by the score's samples;
+-- the run's counts are in range; part and scratch have as many cells as before. A turn is a stretch, whose samples are the score's by
+-- `stretch_advanced`. Assumes nothing.
 use mathlib.Core.Path.{◌≡◌}
 use Prim.Native.Nat.{◌-◌}
 use lib.ListN.{length}

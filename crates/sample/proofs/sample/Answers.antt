@@ -1,5 +1,5 @@
--- `sample::sample` meets its contract: each call gives the equation of its pass, and `sample_is` puts them together in document 01's order. The cells that are lent
--- stay as many through the calls, so each finds them ready. Assumes nothing.
+-- `sample::sample` meets its contract: each call gives the equation of its pass, and `sample_is` puts them together in document 01's
+-- order. The cells that are lent stay as many through the calls, so each finds them ready. Assumes nothing.
 use borrow.Author.Rules.{rules}
 use mathlib.Core.Path.{ap, ◌∙◌}
 use mathlib.Core.Bool.{false}

@@ -9,4 +9,7 @@ pub returns : goal.returns
 unfolding key_in
 returns c =
     let i = c.args.instrument.now in
-    record { each = λ k h. made_at c.from_fn.result (key_in i) (λ k y q called. search rules) c.from_fn.ensures.items k past_constants (omega (arith, h, c.requires)) }
+    record {
+      each = λ k h. made_at c.from_fn.result (key_in i) (λ k y q called. search rules) c.from_fn.ensures.items k past_constants
+          (omega (arith, h, c.requires));
+    }

@@ -1,4 +1,5 @@
--- `score::clear_strings` meets its contract. The loop's invariant: what is left to do gives what the whole walk gives (`WalkAt` of crate strings); nothing is carried. Assumes nothing.
+-- `score::clear_strings` meets its contract. The loop's invariant: what is left to do gives what the whole walk gives (`WalkAt` of crate
+-- strings); nothing is carried. Assumes nothing.
 use mathlib.Core.Path.{refl, ◌∙◌}
 use Rattle.strings.specs.Walk.{at_start, at_turn, at_end}
 use Rattle.string.specs.Table.{design_at}

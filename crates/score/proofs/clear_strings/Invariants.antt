@@ -1,4 +1,5 @@
--- `score::clear_strings` meets its contract. The loop's invariant: what is left to do gives what the whole walk gives (`WalkAt` of crate strings); nothing is carried. Assumes nothing.
+-- `score::clear_strings` meets its contract. The loop's invariant: what is left to do gives what the whole walk gives (`WalkAt` of crate
+-- strings); nothing is carried. Assumes nothing.
 use Rattle.strings.specs.Walk.{WalkAt}
 use Rattle.score.specs.Events.{cleared_one}
 use Rattle.score.proofs.clear_strings.Given as goal

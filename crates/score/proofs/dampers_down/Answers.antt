@@ -9,4 +9,7 @@ use Rattle.score.proofs.dampers_down.Goals as goal
 pub returns : goal.returns
 returns c =
     let at = c.args in
-    record { each = λ k h. made_at c.from_fn.result (is_down at.instrument at.piano) (λ k y q called. search rules) c.from_fn.ensures.items k false (omega (arith, h, c.requires)) }
+    record {
+      each = λ k h. made_at c.from_fn.result (is_down at.instrument at.piano) (λ k y q called. search rules)
+          c.from_fn.ensures.items k false (omega (arith, h, c.requires));
+    }
