@@ -25,25 +25,11 @@ use Rattle.energies.specs.Steps.{summed_into, sums_after}
 
 -- ---- a line
 
--- Cells below i are summed: what is left to add gives the line's energy.
-pub record Summed (l : List Float) (sum : Float) (i : ℕ) : Type 0 where
-  pub within : i ≤ length l
-  pub rest : sum_from sum (map square (drop i l)) ≡ line_energy l
-
-pub summed_start : (l : List Float) → Summed l +0 0
-summed_start l = record { within = omega arith; rest = refl }
-
-pub summed_turn : (l : List Float) (sum : Float) (i : ℕ) → Summed l sum i → i < length l → Summed l (add binary64 sum (square (get_or l i nan))) (i + 1)
+-- one cell more
+pub line_more : (a : Float) (l : List Float) (v : Float) → sum_from a (map square (l ++ (v ∷ []))) ≡ add binary64 (sum_from a (map square l)) (square v)
 unfolding sum_from
-summed_turn l sum i s h = record {
-  within = omega arith;
-  rest = ap (λ (k : ℕ). sum_from (add binary64 sum (square (get_or l i nan))) (map square (drop k l))) (add-one i)
-      ∙ sym (ap (λ (r : List Float). sum_from sum (map square r)) (drop-cons l i nan h)) ∙ s.rest;
-}
-
-pub summed_end : (l : List Float) (sum : Float) (i : ℕ) → Summed l sum i → length l ≤ i → sum ≡ line_energy l
-unfolding sum_from
-summed_end l sum i s h = sym (ap (λ (r : List Float). sum_from sum (map square r)) (drop_of_length-le l h)) ∙ s.rest
+line_more a [] v = refl
+line_more a (x ∷ l) v = line_more (add binary64 a (square x)) l v
 
 -- ---- the strings
 
@@ -52,12 +38,11 @@ abbrev pub kept : ℕ → StringDesign → List Float → List Float
 kept i d p = p
 
 -- a turn of it, which carries b on
-pub turn_kept : {lengths : List ℕ} {coefficients w₀ a₀ w a : List Float} {n at i : ℕ}
-    → WalkAt kept summed_into lengths coefficients n w₀ a₀ w a at i → i < n → (d : StringDesign) → d ≡ design_at lengths coefficients i
-    → (k : ℕ) (b : List Float) → k ≡ size_of d → b ≡ summed_into i d (take (at + k - at) (drop at w)) a
-    → WalkAt kept summed_into lengths coefficients n w₀ a₀ w b (at + k) (i + 1)
-turn_kept {w = w} {at = at} r hi d hd k b hk hb =
-    rw (splice_same at (at + k - at) w) at (at_turn r hi d hd k (take (at + k - at) (drop at w)) b hk (λ p e. e) refl hb)
+pub turn_kept : {designs : List StringDesign} {w₀ a₀ w a : List Float} {at i : ℕ} → WalkAt kept summed_into designs w₀ a₀ w a at i → i < length designs
+    → (k : ℕ) (b : List Float) → k ≡ size_of (design_at designs i)
+    → b ≡ summed_into i (design_at designs i) (take (at + k - at) (drop at w)) a → WalkAt kept summed_into designs w₀ a₀ w b (at + k) (i + 1)
+turn_kept {w = w} {at = at} r hi k b hk hb =
+    rw (splice_same at (at + k - at) w) at (at_turn r hi k (take (at + k - at) (drop at w)) b hk (λ p e. e) refl hb)
 
 -- What the walk leaves in place k is key k's sum, begun from what was there.
 module _ (k : ℕ) where
@@ -83,7 +68,8 @@ module _ (k : ℕ) where
   pub key_sum : (ds : List StringDesign) (cells : List Float) → k < 16 → get_or (sums_after ds cells (replicate 16 +0)) k nan ≡ sum_from +0 (of_key k ds cells)
   unfolding sums_after
   key_sum ds cells h =
-      key_sum_from 0 ds cells (replicate 16 +0) (rw (length-replicate 16 +0) h) ∙ ap (λ (a : Float). sum_from a (of_key k ds cells)) (get_or-replicate 16 k +0 nan h)
+      key_sum_from 0 ds cells (replicate 16 +0) (rw (length-replicate 16 +0) h)
+      ∙ ap (λ (a : Float). sum_from a (of_key k ds cells)) (get_or-replicate 16 k +0 nan h)
 
 -- ---- the pairs
 

@@ -25,7 +25,8 @@ use Rattle.score.specs.Score.{events_at}
 use Rattle.score.specs.Contacts.{contacts_of, hammer_on}
 use Rattle.score.specs.Laws.{apply_all_count, apply_all_length, counted_sum, counted_most, counted_length_lem}
 use Rattle.render.specs.Steps.{state_after, run_add, values_add, values_length, values_few, run_same}
-use Rattle.render.specs.Render.{PianoAt, stepped, sample_with, sample_at, silent_piano, silence, run, samples, forces, render_state, render_samples, render_forces, render_contacts}
+use Rattle.render.specs.Render.{PianoAt, stepped, sample_with, sample_at, silent_piano, silence, run, samples, forces, render_state}
+use Rattle.render.specs.Render.{render_samples, render_forces, render_contacts}
 use Rattle.render.specs.Hammers.{all_on, render_hammer}
 
 -- ---- one sample
@@ -116,7 +117,8 @@ module _ (i : Instrument) (score : List TimedEvent) where
   samples_length t n s = values_length (λ u x. (sample_at i score u x).state) (λ u x. (sample_at i score u x).out) t n s
 
   pub forces_few : (t n : ℕ) (s : State) → length (forces i score t n s) ≤ n
-  forces_few t n s = values_few (λ u x. (sample_at i score u x).state) (λ u x. (sample_at i score u x).force) t n s (λ u x. sample_force i (events_at score u) u x)
+  forces_few t n s = values_few (λ u x. (sample_at i score u x).state) (λ u x. (sample_at i score u x).force) t n s
+      (λ u x. sample_force i (events_at score u) u x)
 
   -- the counts' sum goes up by one a sample at most
   pub run_contact : (keys t n : ℕ) (s : State) → contacts_of keys (run i score t n s).piano ≤ contacts_of keys s.piano + n
@@ -144,7 +146,9 @@ module _ (i : Instrument) (score : List TimedEvent) where
   render_then t m = run_then 0 t m (silence i) ∙ ap (λ (u : ℕ). run i score u m (render_state i score t)) (zero-add t)
 
   pub render_samples_lem : (t m : ℕ) → render_samples i score (t + m) ≡ render_samples i score t ++ samples i score t m (render_state i score t)
-  render_samples_lem t m = samples_then 0 t m (silence i) ∙ ap (λ (u : ℕ). render_samples i score t ++ samples i score u m (render_state i score t)) (zero-add t)
+  render_samples_lem t m =
+      samples_then 0 t m (silence i)
+      ∙ ap (λ (u : ℕ). render_samples i score t ++ samples i score u m (render_state i score t)) (zero-add t)
 
   pub render_forces_lem : (t m : ℕ) → render_forces i score (t + m) ≡ render_forces i score t ++ forces i score t m (render_state i score t)
   render_forces_lem t m = forces_then 0 t m (silence i) ∙ ap (λ (u : ℕ). render_forces i score t ++ forces i score u m (render_state i score t)) (zero-add t)
@@ -176,10 +180,13 @@ module _ (i : Instrument) (score : List TimedEvent) where
   render_length p = let n = length-replicate (cells_of (strings_of i)) _ in run_length 0 p (silence i) (omega (arith, n)) ∙ n
 
 -- scores with the same events at each position of a run give the same run
-run_local : (i : Instrument) (a b : List TimedEvent) (t n : ℕ) (s : State) → ((u : ℕ) → t ≤ u → u < t + n → events_at a u ≡ events_at b u) → run i a t n s ≡ run i b t n s
+run_local : (i : Instrument) (a b : List TimedEvent) (t n : ℕ) (s : State) → ((u : ℕ) → t ≤ u → u < t + n → events_at a u ≡ events_at b u)
+    → run i a t n s ≡ run i b t n s
 run_local i a b t n s h =
-    run_same (λ u x. (sample_at i a u x).state) (λ u x. (sample_at i b u x).state) t s n (λ u x p q. ap (λ (es : List Event). (sample_with i es u x).state) (h u p q))
+    run_same (λ u x. (sample_at i a u x).state) (λ u x. (sample_at i b u x).state) t s n
+    (λ u x p q. ap (λ (es : List Event). (sample_with i es u x).state) (h u p q))
 
 -- the state at p depends only on the events below p
-pub render_local : (i : Instrument) (a b : List TimedEvent) (p : ℕ) → ((u : ℕ) → u < p → events_at a u ≡ events_at b u) → render_state i a p ≡ render_state i b p
+pub render_local : (i : Instrument) (a b : List TimedEvent) (p : ℕ) → ((u : ℕ) → u < p → events_at a u ≡ events_at b u)
+    → render_state i a p ≡ render_state i b p
 render_local i a b p h = run_local i a b 0 p (silence i) (λ u l q. h u (omega arith))

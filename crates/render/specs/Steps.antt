@@ -26,7 +26,8 @@ module _ {S : Type 0} where
     run_add t m zero s = rw (add-zero m)
     run_add t m (suc k) s = rw (add-suc m k, run_add t m k s, add_assoc t m k)
 
-    pub values_add : (g : ℕ → S → List Float) (t m k : ℕ) (s : S) → values_of next g t (m + k) s ≡ values_of next g t m s ++ values_of next g (t + m) k (state_after next t m s)
+    pub values_add : (g : ℕ → S → List Float) (t m k : ℕ) (s : S)
+        → values_of next g t (m + k) s ≡ values_of next g t m s ++ values_of next g (t + m) k (state_after next t m s)
     unfolding values_of
     values_add g t m zero s = rw (add-zero m, append-nil)
     values_add g t m (suc k) s = rw (add-suc m k, values_add g t m k s, run_add t m k s, add_assoc t m k, append_assoc)
@@ -60,7 +61,8 @@ module _ {S : Type 0} where
         ap (λ (x : S). next (t + n) x) (run_same n (λ u x a b. h u x a (omega arith))) ∙ h (t + n) (state_after next' t n s) (omega arith) (omega arith)
 
     -- what is listed of each sample alike is the same list, whatever the states are
-    pub values_each : (g g' : ℕ → S → List Float) (s' : S) (n : ℕ) → ((k : ℕ) → k < n → g (t + k) (state_after next t k s) ≡ g' (t + k) (state_after next' t k s'))
+    pub values_each : (g g' : ℕ → S → List Float) (s' : S) (n : ℕ)
+        → ((k : ℕ) → k < n → g (t + k) (state_after next t k s) ≡ g' (t + k) (state_after next' t k s'))
         → values_of next g t n s ≡ values_of next' g' t n s'
     unfolding values_of
     values_each g g' s' zero h = refl

@@ -1,19 +1,19 @@
 // The render of a score: one loop over samples for playing, with output and trace, and for going on without.
 #![tactic(auto)]
 
-ghost use Rattle.std.specs.Prelude.{◌≡◌, ℕ, ◌+◌, ◌≤◌, ◌<◌, ◌^◌, length, set, replicate};
+ghost use Rattle.std.specs.Prelude.{◌≡◌, ℕ, ◌+◌, ◌≤◌, ◌<◌, ◌^◌, length, set, replicate, option_to_list};
 ghost use Rattle.float.specs.Float.{zero};
 ghost use Rattle.std.proofs.lemmas.List.Edits.{sets};
-ghost use Rattle.sample.specs.Sample.{Ready, forces_of};
-ghost use Rattle.sample_constants.specs.Model.{StringsFilled};
+ghost use Rattle.sample.specs.Sample.{Ready, model_at};
+ghost use Rattle.sample_constants.specs.Model.{strings_of};
 ghost use Rattle.score.specs.Events.{Playable};
 ghost use Rattle.score.specs.Score.{events_of};
 ghost use Rattle.render.specs.Render.{Advanced, InRange, PianoAt, NextStretch, Renderable, Rendered, rendering_of, unstarted, stretch_step, silent_piano};
 
 use instrument::Instrument;
-use points::HammerState;
-use sample::{Motion, Setup};
-use score::{Piano, Score};
+use sample::{Motion, Tables};
+use score::{Piano, Score, TimedEvent};
+use string::{Indices, StringDesign};
 
 // A run in progress: the piano, how many samples are done, and how many forces were pushed.
 #[derive(Clone, Copy)]
@@ -23,16 +23,18 @@ pub struct Run {
     pub pushed: usize,
 }
 
-// Samples with no event behind the first: the numbers they are computed with, which dampers are to be down, the run that
-// they go on from, and how many samples are done where they stop. Sample 0 of the run is at position t.
+// Samples with no event behind the first: which dampers are to be down, the run that they go on from, and how many samples are
+// done where they stop. Sample 0 of the run is at position t.
 #[derive(Clone, Copy)]
 pub struct Stretch {
-    pub setup: Setup,
     pub down: [bool; 16],
     pub run: Run,
     pub t: u64,
     pub stop: u64,
 }
+
+// The indices of a string's lines before the first sample.
+const UNINDEXED: Indices = Indices { a: 0, b: 0, c: 0 };
 
 // A store where there is a cell for it: a run without output has none.
 fn put(cells: &mut [f64], i: usize, x: f64)
@@ -44,134 +46,93 @@ fn put(cells: &mut [f64], i: usize, x: f64)
 }
 
 // The force of a sample that has a hammer goes behind the k forces there are.
-fn push(trace: &mut [f64], k: usize, pushed: bool, force: f64) -> usize
+fn push(trace: &mut [f64], k: usize, force: Option<f64>) -> usize
     requires { k + 1 < 2 ^ 64 }
-    ensures { (result ≡ k + length (forces_of pushed force)) × (trace.new ≡ sets trace.old k (forces_of pushed force)) }
+    ensures { (result ≡ k + length (option_to_list force)) × (trace.new ≡ sets trace.old k (option_to_list force)) }
 {
-    if pushed {
-        put(trace, k, force);
-        k + 1
-    } else {
-        k
+    match force {
+        Some(f) => {
+            put(trace, k, f);
+            k + 1
+        }
+        None => k,
     }
 }
 
-// The samples of a stretch: the one loop over samples, which counts them up.
+// The samples of a stretch: the one loop over samples.
 fn play_stretch(
     part: &mut [f64],
     scratch: &mut [f64],
     out: &mut [f64],
     trace: &mut [f64],
-    table: &[f64; 64],
-    lengths: &[usize; 160],
-    coefficients: &[f64; 128],
+    tables: Tables<'_>,
     stretch: Stretch,
 ) -> Run
-    requires ready { Ready stretch.setup lengths.now coefficients.now part.old scratch.old }
-    requires in_range { InRange stretch.setup.keys stretch.run stretch.t stretch.stop }
-    ensures { Advanced (stretch_step stretch table.now lengths.now coefficients.now) stretch.t
+    requires ready { Ready (model_at tables) part.old scratch.old }
+    requires in_range { InRange (length tables.keys.now) stretch.run stretch.t stretch.stop }
+    ensures { Advanced (stretch_step stretch (model_at tables.entry)) stretch.t
         (rendering_of stretch.run part.old out.old trace.old)
         (rendering_of result part.new out.new trace.new)
-        × (result.done ≡ stretch.stop) × InRange stretch.setup.keys result stretch.t stretch.stop }
+        × (result.done ≡ stretch.stop) × InRange (length tables.entry.keys.now) result stretch.t stretch.stop }
 {
-    let setup = stretch.setup;
-    let down = stretch.down;
-    let run = stretch.run;
-    let piano = run.piano;
-    let held = piano.held;
-    let hand_damped = piano.hand_damped;
-    let mut damper_r = piano.damper_r;
-    let mut contact_samples = piano.contact_samples;
-    let mut motion = piano.motion;
-    let mut done = run.done;
+    let Stretch { down, run, t, stop } = stretch;
+    let mut piano = run.piano;
     let mut pushed = run.pushed;
-    let t = stretch.t;
-    let stop = stretch.stop;
-    let mut indices = strings::first_indices(lengths, coefficients, setup.strings, t + done);
-    while done < stop {
+    let designs = tables.designs;
+    let mut room = [UNINDEXED; 32];
+    let indices = &mut room[..designs.len()];
+    strings::first_indices(designs, indices, t + run.done);
+    for done in run.done..stop {
         let at = t + done;
-        let hammer = motion.hammer;
+        let hammer = piano.motion.hammer;
         let s = sample::sample(
             part,
             scratch,
-            &mut damper_r,
+            &mut piano.damper_r,
             &down,
-            table,
-            lengths,
-            coefficients,
-            &indices,
-            setup,
-            motion,
+            tables,
+            indices,
+            piano.motion,
             at,
         );
-        strings::next_indices(&mut indices, lengths, coefficients, setup.strings, at);
-        sample::count_contact(&mut contact_samples, hammer, s.contact);
+        strings::next_indices(designs, indices, at);
+        sample::count_contact(&mut piano.contact_samples, hammer, s.contact);
         put(out, done as usize, s.out);
-        pushed = push(trace, pushed, s.pushed, s.force);
-        motion = s.motion;
-        done += 1;
+        pushed = push(trace, pushed, s.force);
+        piano.motion = s.motion;
     }
     Run {
-        piano: Piano {
-            held,
-            hand_damped,
-            damper_r,
-            contact_samples,
-            pedal: piano.pedal,
-            motion,
-        },
-        done,
+        piano,
+        done: stop,
         pushed,
-    }
-}
-
-// How far a stretch goes that starts at t + done: to the next event, or to m; one sample at least.
-fn stop_at(next: u64, t: u64, done: u64, m: u64) -> u64
-    requires done_lt_m { done < m }
-    requires m_bound { t + m < 2 ^ 64 }
-    ensures { (done < result) × (result ≤ m) × ((u : ℕ) → t + done + 1 ≤ u → u < t + result → u < next) }
-{
-    if next <= t + done {
-        done + 1
-    } else {
-        if next - t < m { next - t } else { m }
     }
 }
 
 // The stretch that follows a run: the events at t + run.done act, and it goes on to the next event or to m.
 fn next_stretch(
     part: &mut [f64],
-    lengths: &[usize; 160],
-    coefficients: &[f64; 128],
+    designs: &[StringDesign],
     instrument: Instrument,
-    score: Score,
+    events: &[TimedEvent],
     run: Run,
     t: u64,
     m: u64,
 ) -> Stretch
-    requires playable { Playable instrument lengths.now coefficients.now instrument.string_count part.old }
-    requires strings_filled { StringsFilled instrument lengths.now coefficients.now }
-    requires count_bound { score.count ≤ 64 }
+    requires playable { Playable instrument designs.now part.old }
+    requires strings { designs.now ≡ strings_of instrument }
     requires done_lt_m { run.done < m }
     requires m_bound { t + m < 2 ^ 64 }
-    ensures { NextStretch instrument (events_of score) t m run part.old part.new result }
+    ensures { NextStretch instrument events.now t m run part.old part.new result }
 {
     let at = t + run.done;
-    let n = instrument.string_count;
-    let piano = run.piano;
-    let setup = sample_constants::setup_of(instrument);
-    let acted = score::apply_events(part, lengths, coefficients, n, instrument, score, piano, at);
-    let down = score::dampers_down(instrument, acted);
-    let next = score::next_event(score, at + 1);
-    let stop = stop_at(next, t, run.done, m);
+    let piano = score::apply_events(part, designs, instrument, events, run.piano, at);
+    let stop = match score::next_event(events, at + 1) {
+        Some(next) => m.min(next - t),
+        None => m,
+    };
     Stretch {
-        setup,
-        down,
-        run: Run {
-            piano: acted,
-            done: run.done,
-            pushed: run.pushed,
-        },
+        down: score::dampers_down(instrument, piano),
+        run: Run { piano, ..run },
         t,
         stop,
     }
@@ -196,32 +157,28 @@ pub fn render(
     ensures { Rendered instrument (events_of score) t m (unstarted piano part.old out.old trace.old)
         (rendering_of result part.new out.new trace.new) }
 {
-    let table = sample_constants::key_table(instrument);
-    let tables = sample_constants::string_tables(instrument);
-    let lengths = tables.lengths;
-    let coefficients = tables.coefficients;
+    let keys = sample_constants::key_table(&instrument);
+    let strings = sample_constants::string_table(&instrument);
+    let tables = Tables {
+        constants: sample_constants::constants_of(instrument.common),
+        keys: &keys[..instrument.key_count],
+        designs: &strings[..instrument.string_count],
+    };
+    let events = &score.events[..score.count];
     let mut run = Run {
-        piano: piano,
+        piano,
         done: 0,
         pushed: 0,
     };
     while run.done < m {
-        let stretch = next_stretch(part, &lengths, &coefficients, instrument, score, run, t, m);
-        run = play_stretch(
-            part,
-            scratch,
-            out,
-            trace,
-            &table,
-            &lengths,
-            &coefficients,
-            stretch,
-        );
+        let stretch = next_stretch(part, tables.designs, instrument, events, run, t, m);
+        run = play_stretch(part, scratch, out, trace, tables, stretch);
     }
     run
 }
 
 // The piano of silence: zero, false, none.
+#[tactic(auto, unfolding(crate::specs::Render::silent_piano))]
 pub fn silent_piano() -> Piano
     ensures { result ≡ silent_piano }
 {
@@ -232,7 +189,7 @@ pub fn silent_piano() -> Piano
         contact_samples: [0; 16],
         pedal: false,
         motion: Motion {
-            hammer: HammerState::Resting,
+            hammer: None,
             peak_force: 0.0,
         },
     }
@@ -242,7 +199,5 @@ pub fn silent_piano() -> Piano
 pub fn silence_part(part: &mut [f64])
     ensures { part.new ≡ replicate (length part.old) zero }
 {
-    for i in 0..part.len() {
-        part[i] = 0.0;
-    }
+    part.fill(0.0);
 }

@@ -3,24 +3,26 @@
 
 ghost use Rattle.std.specs.Prelude.{◌≡◌, false, get_or};
 ghost use Rattle.strings.specs.Strings.{Indexed};
-ghost use Rattle.sample.specs.Sample.{Ready, Bridged, CanCount, model_at, sampled, step_of, hammer_after, moved, pushed_by, counted_for};
+ghost use Rattle.sample.specs.Sample.{Ready, Bridged, CanCount, model_at, sampled, step_of, hammer_after, moved, counted_for};
 
 use float::max;
-use points::{Constants, ForceSum, HammerState};
+use keys::KeyConstants;
+use points::{Constants, Flight, ForceSum};
+use string::{Indices, StringDesign};
 
 // The hammer, if one flies, and the greatest force that it met.
 #[derive(Clone, Copy)]
 pub struct Motion {
-    pub hammer: HammerState,
+    pub hammer: Option<Flight>,
     pub peak_force: f64,
 }
 
-// The numbers of an instrument that are no table, with how many keys and strings it has.
+// What the samples are computed with: an instrument's constants, its keys' and its strings'.
 #[derive(Clone, Copy)]
-pub struct Setup {
+pub struct Tables<'a> {
     pub constants: Constants,
-    pub keys: usize,
-    pub strings: usize,
+    pub keys: &'a [KeyConstants],
+    pub designs: &'a [StringDesign],
 }
 
 // What a sample gives: the hammer after it, the output, the force that it pushes, if a hammer flew, and whether that hammer was in contact.
@@ -28,109 +30,57 @@ pub struct Setup {
 pub struct Sampled {
     pub motion: Motion,
     pub out: f64,
-    pub pushed: bool,
-    pub force: f64,
+    pub force: Option<f64>,
     pub contact: bool,
 }
 
 // The bridge: each key's sum, the weighted total, each key's speed, and the strings' ends.
-fn bridge(
-    part: &mut [f64],
-    v_in: &[f64],
-    table: &[f64; 64],
-    lengths: &[usize; 160],
-    coefficients: &[f64; 128],
-    indices: &[usize; 96],
-    setup: Setup,
-    t: u64,
-) -> f64
-    requires ready { Ready setup lengths.now coefficients.now part.old v_in.now }
-    requires indexed { Indexed lengths.now coefficients.now indices.now setup.strings t }
-    ensures { Bridged (model_at setup table.now lengths.now coefficients.now) t v_in.now part.old part.new result }
+fn bridge(part: &mut [f64], v_in: &[f64], tables: Tables<'_>, indices: &[Indices], t: u64) -> f64
+    requires ready { Ready (model_at tables) part.old v_in.now }
+    requires indexed { Indexed tables.designs.now indices.now t }
+    ensures { Bridged (model_at tables.entry) t v_in.now part.old part.new result }
 {
-    let c = setup.constants;
+    let Tables {
+        constants,
+        keys,
+        designs,
+    } = tables;
     let mut v_b = [0.0; 16];
-    keys::sum_keys(v_in, &mut v_b, lengths, coefficients, setup.strings);
-    let total = keys::weighted_total(table, &v_b, setup.keys);
-    keys::bridge_speeds(table, c.yz, total, &mut v_b, setup.keys);
-    strings::bridge_strings(
-        part,
-        v_in,
-        &v_b,
-        lengths,
-        coefficients,
-        indices,
-        c.z,
-        setup.strings,
-        t,
-    )
+    keys::sum_keys(v_in, designs, &mut v_b);
+    let total = keys::weighted_total(keys, &v_b);
+    keys::bridge_speeds(keys, constants.yz, total, &mut v_b);
+    strings::bridge_strings(part, v_in, &v_b, designs, indices, constants.z, t)
 }
 
 // A hammer that flies back with no string in contact is gone.
-fn hammer_after(any_contact: bool, key_index: usize, y_h: f64, v_h: f64) -> HammerState
-    ensures { result ≡ hammer_after any_contact key_index y_h v_h }
+fn hammer_after(any_contact: bool, h: Flight) -> Option<Flight>
+    ensures { result ≡ hammer_after any_contact h }
 {
-    if any_contact {
-        HammerState::Flying {
-            key_index,
-            y_h,
-            v_h,
-        }
+    if !any_contact && h.v_h < 0.0 {
+        None
     } else {
-        if v_h < 0.0 {
-            HammerState::Resting
-        } else {
-            HammerState::Flying {
-                key_index,
-                y_h,
-                v_h,
-            }
-        }
+        Some(h)
     }
 }
 
 // The hammer's motion under the strings' forces.
+#[tactic(auto, unfolding(crate::specs::Sample::moved))]
 fn move_hammer(c: Constants, motion: Motion, f: ForceSum) -> Motion
     ensures { result ≡ moved c motion.hammer motion.peak_force f }
 {
-    let hammer = c.hammer;
-    let h = motion.hammer;
-    match h {
-        HammerState::Resting => motion,
-        HammerState::Flying {
-            key_index,
-            y_h,
-            v_h,
-        } => {
-            let v = v_h - c.dt * f.force_sum / hammer.mass;
-            let y = y_h + c.dt * v;
-            let after = hammer_after(f.any_contact, key_index, y, v);
-            if f.any_contact {
-                Motion {
-                    hammer: after,
-                    peak_force: max(motion.peak_force, f.force_sum),
-                }
-            } else {
-                Motion {
-                    hammer: after,
-                    peak_force: motion.peak_force,
-                }
-            }
-        }
-    }
-}
-
-// A force is pushed where a hammer flies.
-fn flies(h: HammerState) -> bool
-    ensures { result ≡ pushed_by h }
-{
-    match h {
-        HammerState::Resting => false,
-        HammerState::Flying {
-            key_index,
-            y_h,
-            v_h,
-        } => true,
+    let Some(h) = motion.hammer else {
+        return motion;
+    };
+    let v_h = h.v_h - c.dt * f.force_sum / c.hammer.mass;
+    let y_h = h.y_h + c.dt * v_h;
+    let peak_force = if f.any_contact {
+        max(motion.peak_force, f.force_sum)
+    } else {
+        motion.peak_force
+    };
+    Motion {
+        hammer: hammer_after(f.any_contact, Flight { y_h, v_h, ..h }),
+        peak_force,
     }
 }
 
@@ -140,79 +90,44 @@ pub fn sample(
     scratch: &mut [f64],
     damper_r: &mut [f64; 16],
     down: &[bool; 16],
-    table: &[f64; 64],
-    lengths: &[usize; 160],
-    coefficients: &[f64; 128],
-    indices: &[usize; 96],
-    setup: Setup,
+    tables: Tables<'_>,
+    indices: &[Indices],
     motion: Motion,
     t: u64,
 ) -> Sampled
-    requires ready { Ready setup lengths.now coefficients.now part.old scratch.old }
-    requires indexed { Indexed lengths.now coefficients.now indices.now setup.strings t }
+    requires ready { Ready (model_at tables) part.old scratch.old }
+    requires indexed { Indexed tables.designs.now indices.now t }
     ensures { step_of result damper_r.new part.new
-        ≡ sampled (model_at setup table.now lengths.now coefficients.now) (λ k. get_or down.now k false)
-        t damper_r.old motion part.old }
+        ≡ sampled (model_at tables.entry) (λ k. get_or down.now k false) t damper_r.old motion part.old }
 {
-    let c = setup.constants;
-    let h = motion.hammer;
-    keys::move_dampers(table, down, damper_r, setup.keys);
-    rows::filter_strings(
-        part,
-        scratch,
-        lengths,
-        coefficients,
-        indices,
-        setup.strings,
-        t,
-    );
-    let f = strings::strike_strings(
-        part,
-        c,
-        h,
-        damper_r,
-        lengths,
-        coefficients,
-        indices,
-        setup.strings,
-        t,
-    );
-    let after = move_hammer(c, motion, f);
-    let out = bridge(
-        part,
-        scratch,
-        table,
-        lengths,
-        coefficients,
-        indices,
-        setup,
-        t,
-    );
-    let pushed = flies(h);
+    let Tables {
+        constants,
+        keys,
+        designs,
+    } = tables;
+    let hammer = motion.hammer;
+    keys::move_dampers(keys, down, damper_r);
+    rows::filter_strings(part, scratch, designs, indices, t);
+    let f = strings::strike_strings(part, constants, hammer, damper_r, designs, indices, t);
+    let after = move_hammer(constants, motion, f);
+    let out = bridge(part, scratch, tables, indices, t);
     Sampled {
         motion: after,
         out,
-        pushed,
-        force: f.force_sum,
-        contact: pushed & f.any_contact,
+        force: hammer.map(|_| f.force_sum),
+        contact: hammer.is_some() & f.any_contact,
     }
 }
 
 // A sample in contact counts for the key of the hammer that flies.
-pub fn count_contact(contact_samples: &mut [u64; 16], h: HammerState, contact: bool)
+#[tactic(auto, unfolding(crate::specs::Sample::CanCount, crate::specs::Sample::counted_for))]
+pub fn count_contact(contact_samples: &mut [u64; 16], h: Option<Flight>, contact: bool)
     requires { CanCount contact_samples.old h }
     ensures { contact_samples.new ≡ counted_for h contact contact_samples.old }
 {
-    match h {
-        HammerState::Resting => {}
-        HammerState::Flying {
-            key_index,
-            y_h,
-            v_h,
-        } => {
-            if contact {
-                contact_samples[key_index] += 1;
-            }
-        }
+    if let Some(h) = h
+        && contact
+    {
+        contact_samples[h.key_index] += 1;
     }
 }

@@ -1,5 +1,6 @@
--- Document 01, "One sample": "events whose position is not above t". The Rust walks the score once: at each sample it applies, in order, those of the events not yet applied whose
--- position is not above t, up to the first that is later. In a score whose positions do not fall these are the events at t, sample by sample from 0. Assumes nothing.
+-- Document 01, "One sample": "events whose position is not above t". The Rust walks the score once: at each sample it applies, in order,
+-- those of the events not yet applied whose position is not above t, up to the first that is later. In a score whose positions do not
+-- fall these are the events at t, sample by sample from 0. Assumes nothing.
 use Rattle.std.specs.Prelude.{◌≡◌, refl, Bool, true, false, cond, List, [], ◌∷◌, ℕ, zero, suc, ◌≤◌, ◌<◌, eqb, leb}
 use Rattle.std.proofs.Common.{sym, ap, ◌∙◌, arith, leb-true, leb-false, eq-eqb, ne_eqb}
 use Rattle.score.specs.declared.Event.{Event}

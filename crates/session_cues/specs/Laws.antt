@@ -1,14 +1,19 @@
 -- Laws of the slots: what they keep as a set of positions, and what a passed test says of each. Assumes nothing.
-use Rattle.std.specs.Prelude.{◌≡◌, refl, Bool, true, false, cond, not, ◌&&◌, ◌||◌, List, [], ◌∷◌, map, ℕ, zero, suc, ◌<◌, ◌≤◌, eqb, leb, ltb, length, get_or, set}
-use Rattle.std.proofs.Common.{sym, ◌∙◌, arith, lt-ltb, le-leb, eqb-true, leb-true}
+use Rattle.std.specs.Prelude.{◌≡◌, refl, Bool, true, false, cond, not, ◌&&◌, ◌||◌, List, [], ◌∷◌, map, ℕ, zero, suc, ◌+◌, ◌<◌, ◌≤◌, eqb, leb, ltb}
+use Rattle.std.specs.Prelude.{length, get_or, set, position, Some, None}
+use Rattle.std.specs.Option.{is_some}
+use Rattle.std.specs.List.{position_or_len}
+use Rattle.std.proofs.Common.{sym, ◌∙◌, ap, one-add, arith, ltb-true, lt-ltb, le-leb, eqb-true, leb-true}
 use Rattle.std.proofs.Math.Dec.{leb-suc-suc}
 use Rattle.std.proofs.lemmas.Bool.{not-true}
+use Rattle.std.proofs.lemmas.List.Sums.{passes_at_first}
 use Rattle.score.specs.declared.Piano.{Piano}
 use Rattle.score.specs.Contacts.{contacts_of, hammer_on}
 use Rattle.positions.specs.Positions.{end, count, is_in, up_to, distinct, Same}
 use Rattle.positions.specs.Laws.{and_true, and_both, true_or_false, count_swap, in_front, in_cons, in_none}
 use Rattle.session_cues.specs.declared.Cue.{Cue}
-use Rattle.session_cues.specs.Cues.{kept_of, stands_at, slot_at, free_slot, drop_above, sound_piano, sound_cue, sound_cue_to, sound_cues, sound_cues_to}
+use Rattle.session_cues.specs.Cues.{kept_of, stands_at, is_free, slot_at, free_slot, drop_above, sound_piano, sound_cue, sound_cue_to, sound_cues}
+use Rattle.session_cues.specs.Cues.{sound_cues_to}
 
 -- ---- what the slots keep
 
@@ -31,26 +36,26 @@ in_if t x true l = go (eqb t x)
     go false = refl
 in_if t x false l = refl
 
+below_next : (a b : ℕ) → ltb (1 + a) (suc b) ≡ ltb a b
+below_next a b = rw (one-add a) (leb-suc-suc (suc a) b)
+
 pub slot_in : (x : ℕ) (cs : List Cue) → ltb (slot_at x cs) (length cs) ≡ is_in x (kept_of cs)
-unfolding slot_at kept_of
+unfolding kept_of
 slot_in x [] = sym (in_none x)
 slot_in x (c ∷ cs) = go (stands_at x c) (slot_in x cs) ∙ sym (in_if x c.position c.kept (kept_of cs))
   where
-    go : (b : Bool) → ltb (slot_at x cs) (length cs) ≡ is_in x (kept_of cs) → ltb (cond b 0 (suc (slot_at x cs))) (suc (length cs)) ≡ cond b true (is_in x (kept_of cs))
+    go : (b : Bool) → ltb (slot_at x cs) (length cs) ≡ is_in x (kept_of cs)
+        → ltb (cond (not b) (1 + slot_at x cs) 0) (suc (length cs)) ≡ cond b true (is_in x (kept_of cs))
     go true e = lt-ltb 0 (suc (length cs)) (omega arith)
-    go false e = leb-suc-suc (suc (slot_at x cs)) (length cs) ∙ e
+    go false e = below_next (slot_at x cs) (length cs) ∙ e
 
 -- the slot found keeps the position
-pub slot_kept : (x : ℕ) (cs : List Cue) (d : Cue) → slot_at x cs < length cs → ((get_or cs (slot_at x cs) d).kept ≡ true) × ((get_or cs (slot_at x cs) d).position ≡ x)
-unfolding slot_at
-slot_kept x [] d h = absurd (omega arith)
-slot_kept x (c ∷ cs) d h = go (stands_at x c) refl h (slot_kept x cs d)
-  where
-    go : (b : Bool) → stands_at x c ≡ b → cond b 0 (suc (slot_at x cs)) < suc (length cs)
-        → (slot_at x cs < length cs → ((get_or cs (slot_at x cs) d).kept ≡ true) × ((get_or cs (slot_at x cs) d).position ≡ x))
-        → ((get_or (c ∷ cs) (cond b 0 (suc (slot_at x cs))) d).kept ≡ true) × ((get_or (c ∷ cs) (cond b 0 (suc (slot_at x cs))) d).position ≡ x)
-    go true e k ih = let p = and_true c.kept (eqb x c.position) e in (p.0, sym (eqb-true x c.position p.1))
-    go false e k ih = ih (omega arith)
+pub slot_kept : (x : ℕ) (cs : List Cue) (d : Cue) → slot_at x cs < length cs
+    → ((get_or cs (slot_at x cs) d).kept ≡ true) × ((get_or cs (slot_at x cs) d).position ≡ x)
+slot_kept x cs d h =
+    let c = get_or cs (slot_at x cs) d in
+    let p = and_true c.kept (eqb x c.position) (passes_at_first (stands_at x) cs d h) in
+    (p.0, sym (eqb-true x c.position p.1))
 
 -- a kept slot's position is kept
 pub kept_in : (cs : List Cue) (j : ℕ) (d : Cue) → j < length cs → (get_or cs j d).kept ≡ true → is_in (get_or cs j d).position (kept_of cs) ≡ true
@@ -66,37 +71,47 @@ kept_in (c ∷ cs) (suc j) d h k = go c.kept (kept_in cs j d (omega arith) k)
 -- ---- the free slot
 
 pub free_slot_free : (cs : List Cue) (d : Cue) → free_slot cs < length cs → (get_or cs (free_slot cs) d).kept ≡ false
-unfolding free_slot
-free_slot_free [] d h = absurd (omega arith)
-free_slot_free (c ∷ cs) d h = go c.kept refl h (free_slot_free cs d)
-  where
-    go : (b : Bool) → c.kept ≡ b → cond b (suc (free_slot cs)) 0 < suc (length cs) → (free_slot cs < length cs → (get_or cs (free_slot cs) d).kept ≡ false)
-        → (get_or (c ∷ cs) (cond b (suc (free_slot cs)) 0) d).kept ≡ false
-    go true e k ih = ih (omega arith)
-    go false e k ih = e
+free_slot_free cs d h = not-true (get_or cs (free_slot cs) d).kept (passes_at_first is_free cs d h)
 
 -- no slot is free where as many are kept as there are, and only there
-pub free_slot_few : (cs : List Cue) → free_slot cs ≤ length cs
-unfolding free_slot
-free_slot_few [] = omega arith
-free_slot_few (c ∷ cs) = go c.kept (free_slot_few cs)
-  where
-    go : (b : Bool) → free_slot cs ≤ length cs → cond b (suc (free_slot cs)) 0 ≤ suc (length cs)
-    go true h = omega arith
-    go false h = omega arith
-
 pub free_slot_full : (cs : List Cue) → ltb (free_slot cs) (length cs) ≡ ltb (length (kept_of cs)) (length cs)
-unfolding free_slot kept_of
+unfolding kept_of
 free_slot_full [] = refl
 free_slot_full (c ∷ cs) = go c.kept (free_slot_full cs) (kept_length cs)
   where
     go : (b : Bool) → ltb (free_slot cs) (length cs) ≡ ltb (length (kept_of cs)) (length cs) → length (kept_of cs) ≤ length cs
-        → ltb (cond b (suc (free_slot cs)) 0) (suc (length cs)) ≡ ltb (length (cond b (c.position ∷ kept_of cs) (kept_of cs))) (suc (length cs))
-    go true e h = leb-suc-suc (suc (free_slot cs)) (length cs) ∙ e ∙ sym (leb-suc-suc (suc (length (kept_of cs))) (length cs))
+        → ltb (cond (not (not b)) (1 + free_slot cs) 0) (suc (length cs)) ≡ ltb (length (cond b (c.position ∷ kept_of cs) (kept_of cs))) (suc (length cs))
+    go true e h = below_next (free_slot cs) (length cs) ∙ e ∙ sym (leb-suc-suc (suc (length (kept_of cs))) (length cs))
     go false e h = lt-ltb 0 (suc (length cs)) (omega arith) ∙ sym (lt-ltb (length (kept_of cs)) (suc (length cs)) (omega arith))
 
+-- what a search of the slots gives
+module _ (p : Cue → Bool) (cs : List Cue) where
+  pub found_if : is_some (position p cs) ≡ ltb (position_or_len p cs) (length cs)
+  found_if = go (ltb (position_or_len p cs) (length cs)) refl
+    where
+      go : (b : Bool) → ltb (position_or_len p cs) (length cs) ≡ b → is_some (position p cs) ≡ ltb (position_or_len p cs) (length cs)
+      go true e = rw e
+      go false e = rw e
+
+  pub found_at : (j : ℕ) → position p cs ≡ Some j → (j ≡ position_or_len p cs) × (j < length cs)
+  found_at j e = go (ltb (position_or_len p cs) (length cs)) refl
+    where
+      go : (b : Bool) → ltb (position_or_len p cs) (length cs) ≡ b → (j ≡ position_or_len p cs) × (j < length cs)
+      go true h =
+          let k = rw h at e in
+          let m : j ≡ position_or_len p cs = cc in
+          (m, omega (arith, ltb-true (position_or_len p cs) (length cs) h))
+      go false h = let k = rw h at e in absurd (let z : ⊥ = cc in z)
+
+  pub found_none : position p cs ≡ None → ltb (position_or_len p cs) (length cs) ≡ false
+  found_none e = sym found_if ∙ ap is_some e
+
+pub slot_found : (x : ℕ) (cs : List Cue) → is_some (position (stands_at x) cs) ≡ is_in x (kept_of cs)
+slot_found x cs = found_if (stands_at x) cs ∙ slot_in x cs
+
 -- a cue put into a free slot is one member more
-pub kept_set : (cs : List Cue) (j : ℕ) (c d : Cue) → j < length cs → (get_or cs j d).kept ≡ false → c.kept ≡ true → Same (kept_of (set cs j c)) (c.position ∷ kept_of cs)
+pub kept_set : (cs : List Cue) (j : ℕ) (c d : Cue) → j < length cs → (get_or cs j d).kept ≡ false → c.kept ≡ true
+    → Same (kept_of (set cs j c)) (c.position ∷ kept_of cs)
 unfolding kept_of
 kept_set [] j c d h e k f = absurd (omega arith)
 kept_set (x ∷ cs) zero c d h e k f = rw (e, k)
@@ -159,7 +174,8 @@ distinct_if false x l e = (λ k. true_or_false false k refl, e)
 
 -- cues at distinct positions, none above the end, each with a sound piano, pass
 pub cues_pass : (keys : ℕ) (cs : List Cue) (d : Cue) → distinct (kept_of cs) ≡ true
-    → ((j : ℕ) → j < length cs → (get_or cs j d).kept ≡ true → ((get_or cs j d).position ≤ end) × (sound_piano keys (get_or cs j d).position (get_or cs j d).piano ≡ true))
+    → ((j : ℕ) → j < length cs → (get_or cs j d).kept ≡ true → ((get_or cs j d).position ≤ end)
+    × (sound_piano keys (get_or cs j d).position (get_or cs j d).piano ≡ true))
     → sound_cues keys cs ≡ true
 unfolding sound_cues_to sound_cue_to kept_of
 cues_pass keys [] d e h = refl

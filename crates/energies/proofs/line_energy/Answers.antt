@@ -1,14 +1,20 @@
--- `energies::line_energy` meets its contract. The invariant: what is left to add gives the line's energy. Assumes nothing.
-use mathlib.Core.Path.{refl}
-use native.Mathlib.Omega.{arith}
-use Rattle.energies.proofs.Sums.{summed_start, summed_turn, summed_end}
+-- `energies::line_energy` meets its contract: the fold adds the cells' squares one by one. Assumes nothing.
+use mathlib.Core.Path.{◌≡◌, refl, sym, ap, subst, ◌∙◌}
+use mathlib.Core.List.{List, map}
+use borrow.Author.Rules.{rules}
+use lib.Ieee.{Float, binary64, add}
+use Rattle.std.proofs.lemmas.Fn.{fold_over, fronts, slice_gives}
+use Rattle.float.specs.Float.{zero as +0}
+use Rattle.energies.specs.Energy.{sum_from, square, line_energy}
+use Rattle.energies.proofs.Sums.{line_more}
 use Rattle.energies.proofs.line_energy.Goals as goal
 
-pub loop-i-init : goal.loop-i-init
-loop-i-init c = (refl, summed_start _)
-
-pub loop-i-preserved : goal.loop-i-preserved
-loop-i-preserved c = (refl, summed_turn _ c.loop-i.sum c.loop-i.i c.loop-i.invariant.1 c.loop-i-test.true)
-
 pub returns : goal.returns
-returns c = summed_end _ c.loop-i.sum c.loop-i.i c.loop-i.invariant.1 (omega arith)
+unfolding sum_from
+returns c =
+    subst (λ (l : List Float). c.fold.result ≡ sum_from +0 (map square l)) c.iter.ensures.rest
+    (fold_over fronts (λ y. y.now) _ (λ (cells : List Float) (sum : Float). sum ≡ sum_from +0 (map square cells)) _
+    (λ cells a x b f' j k.
+    let e : b ≡ add binary64 a (square x.now) = search rules in
+    (e ∙ ap (λ (s : Float). add binary64 s (square x.now)) j ∙ sym (line_more +0 cells x.now), search rules))
+    c.iter.result _ _ _ (slice_gives c.iter.result) refl c.fold.ensures.ran)
