@@ -273,3 +273,7 @@ only_law (inf false) r f h = unfold root_of in h
 only_law (fin s zero e) r f h = unfold root_of in h
 only_law (fin true (suc m) e) r f h = unfold root_of in h
 only_law (fin false (suc m) e) r f h = only_one (fin false (suc m) e) r (root_of (fin false (suc m) e)) h (root_law (fin false (suc m) e) f)
+
+-- the same of what is the root of a value of the format
+pub lawful : (x r : Float) → fits binary64 x ≡ true → r ≡ root_of x → SquareRoot x r
+lawful x r f e = subst (λ (y : Float). SquareRoot x y) (sym e) (root_law x (subst T (sym f) tt))
