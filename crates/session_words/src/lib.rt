@@ -19,8 +19,8 @@ use words::Words;
 pub const LENGTH: usize = Session::SIZE;
 
 // The session is written where the slice has its length; else nothing changes.
-pub fn put_session(words: &mut [u64], session: &Session) -> bool
-    ensures { PutMeets session.now words.old result words.new }
+pub fn put_session(words: &mut [u64], session: Session) -> bool
+    ensures { PutMeets session words.old result words.new }
 {
     let fits = words.len() == LENGTH;
     if fits {

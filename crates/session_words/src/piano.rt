@@ -4,11 +4,11 @@ ghost use Rattle.session_words.specs.Layout.{hammer_size, motion_size, piano_siz
 ghost use Rattle.session_words.specs.Piano.{hammer_words, hammer_from, motion_words, motion_of, piano_words, piano_of, is_flag, is_piano};
 
 use crate::words::{Words, all_stand, items_at, put_items};
-use points::HammerState;
+use points::Flight;
 use sample::Motion;
 use score::Piano;
 
-const PEAK_OFFSET: usize = HammerState::SIZE;
+const PEAK_OFFSET: usize = <Option<Flight>>::SIZE;
 
 const HAND_DAMPED_OFFSET: usize = 16;
 
@@ -20,26 +20,22 @@ const PEDAL_OFFSET: usize = CONTACTS_OFFSET + 16;
 
 const MOTION_OFFSET: usize = PEDAL_OFFSET + 1;
 
-fn numbers_of(hammer: HammerState) -> [u64; 4]
+fn numbers_of(hammer: Option<Flight>) -> [u64; 4]
     ensures { result ≡ hammer_words hammer }
 {
     match hammer {
-        HammerState::Resting => [0, 0, 0, 0],
-        HammerState::Flying {
-            key_index,
-            y_h,
-            v_h,
-        } => [
+        None => [0, 0, 0, 0],
+        Some(flight) => [
             1,
-            key_index as u64,
-            little_endian::bits_of(y_h),
-            little_endian::bits_of(v_h),
+            flight.key_index as u64,
+            little_endian::bits_of(flight.y_h),
+            little_endian::bits_of(flight.v_h),
         ],
     }
 }
 
 // Any words may follow the flag of a hammer at rest.
-impl Words for HammerState {
+impl Words for Option<Flight> {
     const SIZE: usize = 4;
 
     ghost SIZE = { hammer_size };
@@ -54,15 +50,15 @@ impl Words for HammerState {
         put_items(&numbers_of(*self), words, at);
     }
 
-    fn read(words: &[u64], at: usize) -> HammerState {
+    fn read(words: &[u64], at: usize) -> Option<Flight> {
         if bool::read(words, at) {
-            HammerState::Flying {
+            Some(Flight {
                 key_index: u64::read(words, at + 1) as usize,
                 y_h: f64::read(words, at + 2),
                 v_h: f64::read(words, at + 3),
-            }
+            })
         } else {
-            HammerState::Resting
+            None
         }
     }
 
@@ -89,13 +85,13 @@ impl Words for Motion {
 
     fn read(words: &[u64], at: usize) -> Motion {
         Motion {
-            hammer: HammerState::read(words, at),
+            hammer: <Option<Flight>>::read(words, at),
             peak_force: f64::read(words, at + PEAK_OFFSET),
         }
     }
 
     fn stands_at(words: &[u64], at: usize) -> bool {
-        HammerState::stands_at(words, at)
+        <Option<Flight>>::stands_at(words, at)
     }
 }
 

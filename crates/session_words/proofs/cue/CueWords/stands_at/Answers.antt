@@ -1,5 +1,6 @@
 -- A cue that is not kept passes; one that is, by its piano. Assumes nothing.
 use Rattle.session_words.proofs.Pieces.{cue_unkept, cue_kept, cue_unknown}
+use Rattle.std.proofs.Common.{arith}
 use Rattle.session_words.proofs.cue.CueWords.stands_at.Goals as goal
 
 pub returns-in-0 : goal.returns-in-0
@@ -9,4 +10,4 @@ pub returns-in-1 : goal.returns-in-1
 returns-in-1 c = cue_kept c.args.words.now c.args.at c.in-1.is _ c.stands_at.ensures
 
 pub returns-in_default : goal.returns-in_default
-returns-in_default c = let d = c.in_default in cue_unknown c.args.words.now c.args.at ? ?
+returns-in_default c = cue_unknown c.args.words.now c.args.at (λ h. omega (arith, h)) (λ h. omega (arith, h))
