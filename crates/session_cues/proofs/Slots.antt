@@ -11,7 +11,6 @@ use Rattle.positions.specs.Positions.{count, is_in, above, up_to, greatest}
 use Rattle.positions.specs.Laws.{true_or_false}
 use Rattle.session_cues.specs.declared.Cue.{Cue}
 use Rattle.session_cues.specs.Cues.{kept_of, stands_at, slot_at, sound_cue, sound_cues, sound_cues_to}
-use Rattle.session_cues.specs.Laws.{slot_in}
 
 count_lost : (q : ℕ) (cs : List Cue) → length (filter (λ (c : Cue). c.kept && ltb q c.position) cs) ≡ above q (kept_of cs)
 unfolding kept_of count
@@ -60,17 +59,9 @@ map_turn f xs ys i d h e =
 pub lost_is : (q : ℕ) (cs : List Cue) → count_by (λ (c : Cue). c.kept && ltb q c.position) cs ≡ above q (kept_of cs)
 lost_is q cs = sym (length-filter (λ (c : Cue). c.kept && ltb q c.position) cs) ∙ count_lost q cs
 
--- whether a search found a slot says whether the position is kept
-pub found_is : (x : ℕ) (cs : List Cue) → is_some (position (stands_at x) cs) ≡ is_in x (kept_of cs)
-found_is x cs = go (ltb (slot_at x cs) (length cs)) refl ∙ slot_in x cs
-  where
-    go : (b : Bool) → ltb (slot_at x cs) (length cs) ≡ b → is_some (position (stands_at x) cs) ≡ ltb (slot_at x cs) (length cs)
-    go true e = rw e
-    go false e = rw e
-
 -- the test of the first slot left, and what it leaves to the later ones
 module _ (keys : ℕ) (left : List Cue) (c : Cue) (cs : List Cue) (e : left ≡ c ∷ cs)
-  (alone again : Bool) (ea : alone ≡ sound_cue keys c) (eg : again ≡ is_in c.position (kept_of cs)) where
+    (alone again : Bool) (ea : alone ≡ sound_cue keys c) (eg : again ≡ is_in c.position (kept_of cs)) where
   sound_if : sound_cues keys left ≡ ((alone && not (c.kept && again)) && sound_cues keys cs)
   unfolding sound_cues_to
   sound_if = rw (e, ea, eg)

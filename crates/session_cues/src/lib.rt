@@ -7,7 +7,7 @@ ghost use Rattle.score.specs.Contacts.{hammer_on};
 ghost use Rattle.positions.specs.Positions.{up_to, greatest, above};
 ghost use Rattle.session_cues.specs.Cues.{kept_of, stands_at, is_free, drop_above, sound_piano, sound_cue, sound_cues};
 
-use points::HammerState;
+use points::Flight;
 use score::Piano;
 use score_edits::END;
 
@@ -65,20 +65,19 @@ pub fn drop_above(cues: &mut [Cue], q: u64)
 pub fn count_above(cues: &[Cue], q: u64) -> u64
     ensures { result ≡ above q (kept_of cues.now) }
 {
-    cues.iter().filter(|cue| cue.kept & (q < cue.position)).count() as u64
+    cues.iter()
+        .filter(|cue| cue.kept & (q < cue.position))
+        .count() as u64
 }
 
-// Whether the hammer, if there is one, is on one of `keys` keys.
-fn is_hammer_on(keys: usize, hammer: HammerState) -> bool
+// Whether the hammer, if one flies, is on one of `keys` keys.
+#[tactic(auto, unfolding(score::specs::Contacts::hammer_on))]
+fn is_hammer_on(keys: usize, hammer: Option<Flight>) -> bool
     ensures { result ≡ hammer_on keys hammer }
 {
     match hammer {
-        HammerState::Resting => true,
-        HammerState::Flying {
-            key_index,
-            y_h: _,
-            v_h: _,
-        } => key_index < keys,
+        Some(flight) => flight.key_index < keys,
+        None => true,
     }
 }
 
@@ -86,19 +85,15 @@ fn is_hammer_on(keys: usize, hammer: HammerState) -> bool
 pub fn is_sound_piano(keys: usize, position: u64, piano: Piano) -> bool
     ensures { result ≡ sound_piano keys position piano }
 {
-    let motion = piano.motion;
-    let hammer = motion.hammer;
-    let there = is_hammer_on(keys, hammer);
-    let counts = piano.contact_samples;
-    let total = score::contacts(counts, keys, position);
-    total.within & there
+    let contacts = score::contacts(piano.contact_samples, keys, position);
+    contacts.is_some() & is_hammer_on(keys, piano.motion.hammer)
 }
 
-fn is_sound_cue(keys: usize, cue: Cue) -> bool
-    ensures { result ≡ sound_cue keys cue }
+#[tactic(auto, unfolding(crate::specs::Cues::sound_cue_to))]
+fn is_sound_cue(keys: usize, cue: &Cue) -> bool
+    ensures { result ≡ sound_cue keys cue.now }
 {
-    let piano = cue.piano;
-    let held = is_sound_piano(keys, cue.position, piano);
+    let held = is_sound_piano(keys, cue.position, cue.piano);
     !cue.kept | ((cue.position <= END) & held)
 }
 
@@ -109,7 +104,7 @@ pub fn are_sound(keys: usize, cues: &[Cue]) -> bool
     let mut left = cues;
     while let Some((cue, later)) = left.split_first() {
         let again = cue.kept & slot_at(later, cue.position).is_some();
-        if again | !is_sound_cue(keys, *cue) {
+        if again | !is_sound_cue(keys, cue) {
             return false;
         }
         left = later;

@@ -12,10 +12,10 @@ returns c =
     let cues = c.args.cues.now in
     c.unwrap_or.ensures
     ∙ greatest_is c.max.result _
-      (max_from_yields_List c.map.result _ c.max.ensures.ran
-        (YieldsList-from_map _ (λ (cue : Cue). cue.position)
-          (YieldsList-at c.map.ensures.source
-            (YieldsList-from_filter _ (λ (cue : Cue). cue.kept && leb cue.position c.args.p) (YieldsList-from_slice cues cc)
-              c.filter.ensures.closure (λ x b q k. search (rules, tests))))
-          c.map.ensures.closure (λ x b q k. search (rules, tests))))
+    (max_from_yields_List c.map.result _ c.max.ensures.ran
+    (YieldsList-from_map _ (λ (cue : Cue). cue.position)
+    (YieldsList-at c.map.ensures.source
+    (YieldsList-from_filter _ (λ (cue : Cue). cue.kept && leb cue.position c.args.p) (YieldsList-from_slice cues cc)
+    c.filter.ensures.closure (λ x b q k. search (rules, tests))))
+    c.map.ensures.closure (λ x b q k. search (rules, tests))))
     ∙ ap greatest (kept_to_is c.args.p cues)
