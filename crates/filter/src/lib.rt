@@ -1,4 +1,5 @@
-// The filters of a string's loop (document 01: Thiran, the dispersion stages, the loss), in place on lent cells. Each is total: see `specs/Filter.antt`
+// The filters of a string's loop (document 01: Thiran, the dispersion stages, the loss), in place on lent cells. Each
+// is total: see `specs/Filter.antt`
 // for what fewer cells than a filter holds mean.
 #![tactic(auto)]
 

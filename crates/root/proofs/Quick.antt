@@ -1,4 +1,5 @@
--- What the quick way of `root` rests on: the rounded root of n is the one r with r * r - r < n ≤ r * r + r, whatever r was guessed from. Assumes nothing.
+-- What the quick way of `root` rests on: the rounded root of n is the one r with r * r - r < n ≤ r * r + r, whatever r
+-- was guessed from. Assumes nothing.
 use Rattle.std.proofs.Common.{◌≡◌, ℕ, ◌+◌, ◌-◌, ◌*◌, ◌%◌, ◌^◌, ◌<◌, ◌≤◌, ◌⊎◌, ap, ◌∙◌, inl, inr, arith}
 use Rattle.root.specs.Steps.{nearest_root}
 use Rattle.root.proofs.Squares.{sq_add, sq_suc, round_down, round_up, lt_or_ge}

@@ -25,9 +25,9 @@ returns c =
     let e = c.allpass-u.ensures in
     let w = c.finish.ensures in (
       w.0 ∙ ap (λ (l : List Float). finish_out z 0 (l ++ drop 2 f) c.allpass-u.result) e.1
-      ∙ ap (finish_out z 0 _) e.0 ∙ begun_out z f c.args.x c.if-cells-lt3.false,
+          ∙ ap (finish_out z 0 _) e.0 ∙ begun_out z f c.args.x c.if-cells-lt3.false,
       w.1 ∙ ap (λ (l : List Float). finish_cells z 0 (l ++ drop 2 f) c.allpass-u.result) e.1
-      ∙ ap (finish_cells z 0 _) e.0 ∙ begun_cells z f c.args.x c.if-cells-lt3.false,
+          ∙ ap (finish_cells z 0 _) e.0 ∙ begun_cells z f c.args.x c.if-cells-lt3.false,
     )
 
 pub shape_of-cells : goal.shape_of-cells

@@ -23,9 +23,11 @@ loop-preserved c =
 pub returns-clause-low : goal.returns-clause-low
 returns-clause-low c =
     let g = c.args.guess in
-    (ends_last (λ m. lt m g) (λ m. le g m) 50 c.loop.counter c.loop.lo c.loop.hi _ _ c.loop.invariant.0 c.loop-test.false c.loop.invariant.1 c.loop.invariant.2).0
+    let l = c.loop in
+    (ends_last (λ m. lt m g) (λ m. le g m) 50 l.counter l.lo l.hi _ _ l.invariant.0 c.loop-test.false l.invariant.1 l.invariant.2).0
 
 pub returns-clause-high : goal.returns-clause-high
 returns-clause-high c =
     let g = c.args.guess in
-    (ends_last (λ m. lt m g) (λ m. le g m) 50 c.loop.counter c.loop.lo c.loop.hi _ _ c.loop.invariant.0 c.loop-test.false c.loop.invariant.1 c.loop.invariant.2).1
+    let l = c.loop in
+    (ends_last (λ m. lt m g) (λ m. le g m) 50 l.counter l.lo l.hi _ _ l.invariant.0 c.loop-test.false l.invariant.1 l.invariant.2).1
