@@ -1,17 +1,15 @@
 -- Items of equal width in a list of words, one after the other: written, read, and read back. Assumes nothing.
-use Rattle.std.specs.Prelude.{◌≡◌, Bool, ◌&&◌, get_or, set}
+use Rattle.std.specs.Prelude.{◌≡◌, Bool, ◌&&◌}
 use Rattle.std.proofs.Math.Path.{refl, sym, ap}
-use Rattle.std.proofs.Common.{◌∙◌, take-suc-set, take_all, drop_at, drop-drop}
+use Rattle.std.proofs.Common.{◌∙◌, drop_at, drop-drop}
 use Rattle.std.proofs.Math.Bool.{true}
 use mathlib.Core.List.{List, [], ◌∷◌, ◌++◌, append_assoc, append-nil}
-use Prim.Native.Nat.{ℕ, zero, suc, ◌+◌, ◌*◌, ◌≤◌, ◌<◌}
+use Prim.Native.Nat.{ℕ, zero, suc, ◌+◌, ◌*◌, ◌≤◌}
 use Rattle.std.proofs.Math.Nat.{mul-suc}
 use Rattle.std.proofs.Math.Numerals.{add-one}
 use native.Mathlib.Omega.{arith}
-use Rattle.std.proofs.Math.ListN.{length, take, drop, length-append}
-use Rattle.std.proofs.Math.Seq.{sets, take-suc, length-take-le}
+use Rattle.std.proofs.Math.ListN.{length, drop, length-append}
 use Rattle.counting.specs.Every.{every, every_after, every_more}
-use Rattle.little_endian.specs.Stores.{sets_next}
 
 module _ {A : Type 0} where
   -- the words of each item, one item after the other
@@ -52,7 +50,9 @@ module _ {A : Type 0} where
       go zero w = let e : 0 ≡ width * 0 = omega arith in ap (λ (n : ℕ). g (drop n w) ∷ []) e
       go (suc i) w =
           let e : width + width * i ≡ width * suc i = omega (arith, mul-suc width i) in
-          ap (λ (l : List A). g w ∷ l) (go i (drop width w) ∙ ap (λ (l : List ℕ). items_of g width i (drop width w) ++ (g l ∷ [])) (drop-drop (width * i) width w ∙ ap (λ (n : ℕ). drop n w) e))
+          ap (λ (l : List A). g w ∷ l)
+          (go i (drop width w)
+          ∙ ap (λ (l : List ℕ). items_of g width i (drop width w) ++ (g l ∷ [])) (drop-drop (width * i) width w ∙ ap (λ (n : ℕ). drop n w) e))
 
   pub joined_append : (f : A → List ℕ) (xs ys : List A) → joined f (xs ++ ys) ≡ joined f xs ++ joined f ys
   unfolding joined
