@@ -23,7 +23,8 @@ use score::TimedEvent;
 use session::Outcome;
 use session_record::Session;
 
-// Each key's energy and number in the file's order, zeros past the last; the refusal's number, 0 for none.
+// Each key's energy and number in the file's order, zeros past the last; the refusal's number, 0 for none. Two arrays, since C has
+// the struct so.
 #[repr(C)]
 #[derive(Clone, Copy)]
 pub struct KeyEnergies {
@@ -39,6 +40,9 @@ pub extern "C" fn gingerfile_read(file: &[u8]) -> Sizes
 {
     crossing::file_sizes(file)
 }
+
+// Each call on a session is one match on what `begin` gives. A function that took the session's call as a closure would save an arm
+// and need the clauses of each closure beside those of the call.
 
 // The words may hold anything before; 7 where there are not 616.
 #[unsafe(no_mangle)]
