@@ -1,13 +1,15 @@
-// What the calls for C and Rust share: the instrument in a file and the session in words, the number that refuses them, a
-// call's answer as numbers, and the session written back.
+// What the calls for C and Rust share: the instrument in a file and the session in words, what refuses them, a call's answer as
+// numbers, and the session written back.
 #![tactic(auto)]
 
-ghost use Rattle.std.specs.Prelude.{◌≡◌, length};
+ghost use Rattle.std.specs.Prelude.{◌≡◌, length, Ok};
 ghost use Rattle.instrument_file.specs.File.{read_of};
+ghost use Rattle.refusal.specs.Refusal.{number_of};
 ghost use Rattle.session_words.specs.Layout.{session_size};
-ghost use Rattle.crossing.specs.Crossing.{refused_by, report_of, sizes_of, handed_refusal, Begins, Keeps};
+ghost use Rattle.crossing.specs.Crossing.{refused_by, accepted_with, report_of, sizes_of, Begins, Opens, Keeps};
 
 use instrument::Instrument;
+use refusal::Refusal;
 use session::{Answer, Outcome};
 use session_record::Session;
 
@@ -36,67 +38,44 @@ pub struct Sizes {
     pub scratch: usize,
 }
 
-// The instrument in a file and the session that words are; the number that refuses the file or the words, 0 for none.
+// The instrument in a file and the session that words are.
 #[derive(Clone, Copy)]
 pub struct Begun {
-    pub refusal: u64,
     pub instrument: Instrument,
     pub session: Session,
 }
 
-pub const RECORD: u64 = 7;
-
-pub fn refused(number: u64) -> Report
-    ensures { result ≡ refused_by number }
+pub fn refused(refusal: Refusal) -> Report
+    ensures { result ≡ refused_by (number_of refusal) }
 {
     Report {
-        refusal: number,
+        refusal: u64::from(refusal),
         value: 0,
         dropped: 0,
         contacts: 0,
     }
 }
 
-fn report_of(answer: Answer) -> Report
-    ensures { result ≡ report_of answer }
+pub fn accepted(value: u64, dropped: u64, contacts: u64) -> Report
+    ensures { result ≡ accepted_with value dropped contacts }
+{
+    Report {
+        refusal: 0,
+        value,
+        dropped,
+        contacts,
+    }
+}
+
+fn answered(answer: Answer) -> Report
+    ensures { result ≡ report_of (Ok answer) }
 {
     match answer {
-        Answer::Refused(number) => Report {
-            refusal: number,
-            value: 0,
-            dropped: 0,
-            contacts: 0,
-        },
-        Answer::Opened => Report {
-            refusal: 0,
-            value: 0,
-            dropped: 0,
-            contacts: 0,
-        },
-        Answer::Played { k, contacts } => Report {
-            refusal: 0,
-            value: k as u64,
-            dropped: 0,
-            contacts,
-        },
-        Answer::Cued => Report {
-            refusal: 0,
-            value: 0,
-            dropped: 0,
-            contacts: 0,
-        },
-        Answer::Went(number) => Report {
-            refusal: 0,
-            value: number,
-            dropped: 0,
-            contacts: 0,
-        },
-        Answer::Edited { t, dropped } => Report {
-            refusal: 0,
-            value: t,
-            dropped,
-            contacts: 0,
-        },
+        Answer::Opened => accepted(0, 0, 0),
+        Answer::Played { k, contacts } => accepted(k as u64, 0, contacts),
+        Answer::Cued => accepted(0, 0, 0),
+        Answer::Went(number) => accepted(number, 0, 0),
+        Answer::Edited { t, dropped } => accepted(t, dropped, 0),
     }
 }
 
@@ -105,68 +84,62 @@ pub fn keep(words: &mut [u64], outcome: Outcome) -> Report
     requires { length words.old ≡ session_size }
     ensures { Keeps outcome words.old result words.new }
 {
-    let answer = outcome.answer;
-    let report = report_of(answer);
-    if report.refusal != 0 {
-        return report;
+    match outcome.answer {
+        Err(refusal) => refused(refusal),
+        Ok(answer) => {
+            session_words::put_session(words, outcome.session);
+            answered(answer)
+        }
     }
-    let session = outcome.session;
-    session_words::put_session(words, session);
-    report
 }
 
-// The file's refusal is met first, then 7 where `whole` says that the rest is not what it must be.
-pub fn handed_refusal(file: u32, whole: bool) -> u64
-    ensures { result ≡ handed_refusal file whole }
-{
-    if file != 0 {
-        return file as u64;
-    }
-    if whole { 0 } else { RECORD }
-}
-
-// What every call does first.
-pub fn begin(file: &[u8], words: &[u64]) -> Begun
+// What every call on a session does first. The file's refusal is met before that of the words.
+pub fn begin(file: &[u8], words: &[u64]) -> Result<Begun, Refusal>
     ensures { Begins file.now words.now result }
 {
-    let given = instrument_file::read(file);
-    let read = session_words::session_at(words);
-    let refusal = handed_refusal(given.refusal, read.is_session);
-    let instrument = given.instrument;
-    let session = read.session;
-    Begun {
-        refusal,
-        instrument,
-        session,
+    let instrument = instrument_file::read(file)?;
+    match session_words::session_at(words) {
+        Some(session) => Ok(Begun {
+            instrument,
+            session,
+        }),
+        None => Err(Refusal::Record),
+    }
+}
+
+// The same where the words are to hold a new session: their number alone counts.
+pub fn begin_open(file: &[u8], words: &[u64]) -> Result<Instrument, Refusal>
+    ensures { Opens file.now words.now result }
+{
+    let instrument = instrument_file::read(file)?;
+    if words.len() == session_words::LENGTH {
+        Ok(instrument)
+    } else {
+        Err(Refusal::Record)
     }
 }
 
 pub fn file_sizes(file: &[u8]) -> Sizes
     ensures { result ≡ sizes_of (read_of file.now) }
 {
-    let given = instrument_file::read(file);
-    let instrument = given.instrument;
-    let common = instrument.common;
-    if given.refusal != 0 {
-        return Sizes {
-            refusal: given.refusal as u64,
+    match instrument_file::read(file) {
+        Err(refusal) => Sizes {
+            refusal: u64::from(refusal),
             fs: 0.0,
             keys: 0,
             strings: 0,
             words: 0,
             work: 0,
             scratch: 0,
-        };
-    }
-    let work = instrument::work_cells(instrument);
-    let scratch = session_record::scratch_cells(instrument);
-    Sizes {
-        refusal: 0,
-        fs: common.fs,
-        keys: instrument.key_count,
-        strings: instrument.string_count,
-        words: session_words::LENGTH,
-        work,
-        scratch,
+        },
+        Ok(instrument) => Sizes {
+            refusal: 0,
+            fs: instrument.common.fs,
+            keys: instrument.key_count,
+            strings: instrument.string_count,
+            words: session_words::LENGTH,
+            work: instrument::work_cells(instrument),
+            scratch: session_record::scratch_cells(instrument),
+        },
     }
 }

@@ -2,31 +2,27 @@
 // not written. What a function gives is what its last call answered; a refused call answers 1,000,000 and its number.
 ghost use Rattle.render.specs.Render.{Renderable};
 
+use crossing::Begun;
 use instrument::Instrument;
+use refusal::Refusal;
 use score::{Event, Score, TimedEvent};
 use session::Answer;
 use session_record::Session;
 
-fn number_of(answer: Answer) -> u64 {
+fn number_of(answer: Result<Answer, Refusal>) -> u64 {
     match answer {
-        Answer::Refused(n) => std::num::wrapping_add_u64(1_000_000, n),
-        Answer::Opened => 0,
-        Answer::Played { k, contacts } => k as u64,
-        Answer::Cued => 0,
-        Answer::Went(n) => n,
-        Answer::Edited { t, dropped } => t,
+        Err(refusal) => std::num::wrapping_add_u64(1_000_000, u64::from(refusal)),
+        Ok(Answer::Opened) => 0,
+        Ok(Answer::Played { k, contacts: _ }) => k as u64,
+        Ok(Answer::Cued) => 0,
+        Ok(Answer::Went(n)) => n,
+        Ok(Answer::Edited { t, dropped: _ }) => t,
     }
 }
 
-// The score in a session's words.
-fn score_in(words: &[u64]) -> Score {
-    let read = session_words::session_at(words);
-    let session = read.session;
-    let events = session.events;
-    Score {
-        events,
-        count: session.count,
-    }
+// A bench asks with an accepted file and a session's words; others are refused as a record that is not sound is.
+fn begun(file: &[u8], words: &[u64]) -> Result<Begun, Refusal> {
+    crossing::begin(file, words).or(Err(Refusal::Record))
 }
 
 fn plays(
@@ -40,12 +36,10 @@ fn plays(
 ) -> u64 {
     let mut session = opened;
     let mut number = 0u64;
-    for i in 0..blocks {
+    for _ in 0..blocks {
         let done = session::play(instrument, session, work, scratch, out, trace);
-        let next = done.session;
-        session = next;
-        let answer = done.answer;
-        number = number_of(answer);
+        session = done.session;
+        number = number_of(done.answer);
     }
     number
 }
@@ -61,25 +55,39 @@ pub extern "C" fn session_plays(
     trace: &mut [f64],
     blocks: u64,
 ) -> u64 {
-    let given = instrument_file::read(file);
-    let instrument = given.instrument;
-    let read = session_words::session_at(words);
-    let session = read.session;
-    plays(instrument, session, blocks, work, scratch, out, trace)
+    match begun(file, words) {
+        Ok(b) => plays(b.instrument, b.session, blocks, work, scratch, out, trace),
+        Err(refusal) => number_of(Err(refusal)),
+    }
+}
+
+fn cues(instrument: Instrument, session: Session, work: &mut [f64], times: u64) -> u64 {
+    let mut number = 0u64;
+    for _ in 0..times {
+        number = number_of(session::cue(instrument, session, work).answer);
+    }
+    number
 }
 
 // `times` cues of the same session.
 #[unsafe(no_mangle)]
 pub extern "C" fn session_cues(file: &[u8], words: &[u64], work: &mut [f64], times: u64) -> u64 {
-    let given = instrument_file::read(file);
-    let instrument = given.instrument;
-    let read = session_words::session_at(words);
-    let session = read.session;
+    match begun(file, words) {
+        Ok(b) => cues(b.instrument, b.session, work, times),
+        Err(refusal) => number_of(Err(refusal)),
+    }
+}
+
+fn inserts(
+    instrument: Instrument,
+    session: Session,
+    work: &mut [f64],
+    timed: TimedEvent,
+    times: u64,
+) -> u64 {
     let mut number = 0u64;
-    for i in 0..times {
-        let done = session::cue(instrument, session, work);
-        let answer = done.answer;
-        number = number_of(answer);
+    for _ in 0..times {
+        number = number_of(session::insert(instrument, session, work, timed).answer);
     }
     number
 }
@@ -93,21 +101,14 @@ pub extern "C" fn session_inserts(
     position: u64,
     times: u64,
 ) -> u64 {
-    let given = instrument_file::read(file);
-    let instrument = given.instrument;
-    let read = session_words::session_at(words);
-    let session = read.session;
     let timed = TimedEvent {
         position,
         event: Event::Pedal(true),
     };
-    let mut number = 0u64;
-    for i in 0..times {
-        let done = session::insert(instrument, session, work, timed);
-        let answer = done.answer;
-        number = number_of(answer);
+    match begun(file, words) {
+        Ok(b) => inserts(b.instrument, b.session, work, timed, times),
+        Err(refusal) => number_of(Err(refusal)),
     }
-    number
 }
 
 // The block of the output's length that a score gives from silence; the number of forces.
@@ -143,8 +144,13 @@ pub extern "C" fn session_render(
     out: &mut [f64],
     trace: &mut [f64],
 ) -> u64 {
-    let given = instrument_file::read(file);
-    let instrument = given.instrument;
+    let Begun {
+        instrument,
+        session,
+    } = match begun(file, words) {
+        Ok(begun) => begun,
+        Err(_) => return 0,
+    };
     if !instrument::is_valid(instrument) {
         return 0;
     }
@@ -154,5 +160,10 @@ pub extern "C" fn session_render(
     if scratch.len() < instrument.string_count {
         return 0;
     }
-    rendered(instrument, score_in(words), part, scratch, out, trace)
+    let events = session.events;
+    let score = Score {
+        events,
+        count: session.count,
+    };
+    rendered(instrument, score, part, scratch, out, trace)
 }

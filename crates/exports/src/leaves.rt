@@ -140,10 +140,8 @@ pub extern "C" fn leaf_root_chain(x: &[f64]) -> f64
     ensures { result ≡ root_chain +0 x.now }
 {
     let mut v: f64 = 0.0;
-    let mut i: usize = 0;
-    while i < x.len() {
-        v = root::root(x[i] + (v - v));
-        i += 1;
+    for number in x {
+        v = root::root(*number + (v - v));
     }
     v
 }
@@ -153,10 +151,8 @@ pub extern "C" fn leaf_root_chain(x: &[f64]) -> f64
 pub extern "C" fn leaf_root_sweep(x: &mut [f64])
     ensures { x.new ≡ map root_of x.old }
 {
-    let mut i: usize = 0;
-    while i < x.len() {
-        x[i] = root::root(x[i]);
-        i += 1;
+    for number in x.iter_mut() {
+        *number = root::root(*number);
     }
 }
 
@@ -178,10 +174,8 @@ pub extern "C" fn leaf_force_sweep(
         mass: 1.0,
         tau: 0.0,
     };
-    let mut i: usize = 0;
-    while i < c0.len() {
-        c0[i] = hammer::contact_force(hammer, eps_r, c0[i], c1);
-        i += 1;
+    for number in c0.iter_mut() {
+        *number = hammer::contact_force(hammer, eps_r, *number, c1);
     }
 }
 
@@ -211,9 +205,7 @@ pub extern "C" fn leaf_row_run(cells: &mut [f64], block: &mut [f64], a: f64)
     ensures { (block.new ≡ row_outs a cells.old block.old)
         × (cells.new ≡ cells_after a cells.old block.old) }
 {
-    let mut i: usize = 0;
-    while i < block.len() {
-        block[i] = filter::dispersion(cells, a, block[i]);
-        i += 1;
+    for number in block.iter_mut() {
+        *number = filter::dispersion(cells, a, *number);
     }
 }

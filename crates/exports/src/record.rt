@@ -1,8 +1,7 @@
 // The reader, refusal 7's test and the writer. The instrument's record crosses as it is: its structs are repr(C).
 use instrument::Instrument;
-use instrument_writer::WriteAnswer;
 
-// The refusal's number, 0 for none; the record; W and 5W.
+// The refusal's number, 0 for none; the record, of zeros where the file is refused; W and 5W.
 #[repr(C)]
 #[derive(Clone, Copy)]
 pub struct Reading {
@@ -12,17 +11,35 @@ pub struct Reading {
     pub work_cells: usize,
 }
 
+// The refusal's number, 0 for none; how many bytes the file has, 0 where it is refused.
+#[repr(C)]
+#[derive(Clone, Copy)]
+pub struct WriteAnswer {
+    pub refusal: u32,
+    pub length: usize,
+}
+
+fn no_instrument() -> Instrument {
+    Instrument {
+        common: instrument_fields::no_common(),
+        key_count: 0,
+        string_count: 0,
+        keys: [instrument_fields::no_key(); 16],
+        strings: [instrument_fields::no_string(); 32],
+    }
+}
+
 #[unsafe(no_mangle)]
 pub extern "C" fn instrument_read(file: &[u8]) -> Reading {
-    let answer = instrument_file::read(file);
-    let instrument = answer.instrument;
-    let part_cells = instrument::part_cells(instrument);
-    let work_cells = instrument::work_cells(instrument);
+    let (refusal, instrument) = match instrument_file::read(file) {
+        Ok(instrument) => (0, instrument),
+        Err(refusal) => (u32::from(refusal), no_instrument()),
+    };
     Reading {
-        refusal: answer.refusal,
+        refusal,
         instrument,
-        part_cells,
-        work_cells,
+        part_cells: instrument::part_cells(instrument),
+        work_cells: instrument::work_cells(instrument),
     }
 }
 
@@ -35,5 +52,11 @@ pub extern "C" fn instrument_test(instrument: Instrument) -> bool {
 // The record's file, into the first of the bytes.
 #[unsafe(no_mangle)]
 pub extern "C" fn instrument_write(instrument: Instrument, bytes: &mut [u8]) -> WriteAnswer {
-    instrument_writer::write(instrument, bytes)
+    match instrument_writer::write(instrument, bytes) {
+        Ok(length) => WriteAnswer { refusal: 0, length },
+        Err(refusal) => WriteAnswer {
+            refusal: u32::from(refusal),
+            length: 0,
+        },
+    }
 }

@@ -1,8 +1,22 @@
--- The file and the words are read; the number says which is refused: `begins`. Assumes nothing.
-use Rattle.crossing.proofs.Returns.{begins}
+-- The file is read, then the words: `begins`. Assumes nothing.
+use Rattle.std.proofs.Common.{sym, ◌∙◌, subst}
+use Rattle.crossing.specs.Crossing.{Begins}
+use Rattle.crossing.proofs.Returns.{handed_on, begins_refused, begins, begins_not}
 use Rattle.crossing.proofs.begin.Goals as goal
 
-pub returns : goal.returns
-returns c =
+pub returns-in_err-instrument : goal.returns-in_err-instrument
+returns-in_err-instrument c =
     let z = c.args in
-    begins z.file.now z.words.now c.read-given.result c.session_at-read.result _ c.read-given.ensures c.session_at-read.ensures c.handed_refusal-refusal.ensures
+    let e = c.in_err-instrument.field-0.0 in
+    subst (Begins z.file.now z.words.now) (handed_on e _ c.from_residual.ensures.1)
+    (begins_refused z.file.now z.words.now e (sym c.read.ensures ∙ c.in_err-instrument.was))
+
+pub returns-in-Some : goal.returns-in-Some
+returns-in-Some c =
+    let z = c.args in
+    begins z.file.now z.words.now _ (sym c.read.ensures ∙ c.in_ok-instrument.was) _ (sym c.session_at.ensures ∙ c.in-Some.is)
+
+pub returns-in-None : goal.returns-in-None
+returns-in-None c =
+    let z = c.args in
+    begins_not z.file.now z.words.now _ (sym c.read.ensures ∙ c.in_ok-instrument.was) (sym c.session_at.ensures ∙ c.in-None.is)

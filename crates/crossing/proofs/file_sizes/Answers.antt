@@ -1,13 +1,12 @@
 -- A refused file gives its number and zeros, an accepted one its own numbers and what the calls on it ask for. Assumes nothing.
-use mathlib.Core.Path.{refl}
-use Rattle.crossing.proofs.Returns.{sizes_refused, sizes_given}
+use Rattle.std.proofs.Common.{sym, ◌∙◌, refl}
+use Rattle.crossing.specs.Crossing.{sizes_of}
 use Rattle.crossing.proofs.file_sizes.Goals as goal
 
-pub returns-then-given-ne0 : goal.returns-then-given-ne0
-returns-then-given-ne0 c =
-    sizes_refused c.args.file.now c.read-given.result c.read-given.ensures _ _ c.if-given-ne0.true refl refl
+pub returns-in-Err : goal.returns-in-Err
+unfolding sizes_of
+returns-in-Err c = rw (sym c.read.ensures ∙ c.in-Err.is, c.from.ensures)
 
-pub returns : goal.returns
-returns c =
-    sizes_given c.args.file.now c.read-given.result c.read-given.ensures _ _ c.if-given-ne0.false c.work_cells-work.ensures.0
-    c.scratch_cells-scratch.ensures
+pub returns-in-Ok : goal.returns-in-Ok
+unfolding sizes_of
+returns-in-Ok c = rw (sym c.read.ensures ∙ c.in-Ok.is, c.work_cells.ensures.0, c.scratch_cells.ensures)

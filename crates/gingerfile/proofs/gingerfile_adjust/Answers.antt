@@ -1,27 +1,17 @@
--- What refuses file or pairs is answered, and nothing is written; else what the writer promises is the promise: `adjust_saved`.
--- That an accepted file comes back follows from it, since every element of a slice of bytes is one: `gives_back`. Assumes nothing.
-use mathlib.Core.Path.{refl}
-use Rattle.gingerfile.proofs.Returns.{adjust_refused, adjust_saved, gives_back}
+-- That an accepted file comes back follows from the first clause, since every element of a slice of bytes is one: `gives_back`. Assumes nothing.
+use Rattle.std.proofs.Common.{sym, ap, ◌∙◌}
+use Rattle.gingerfile.specs.Adjust.{written_as}
+use Rattle.gingerfile.proofs.Returns.{adjust_meets_is, gives_back}
 use Rattle.gingerfile.proofs.gingerfile_adjust.Goals as goal
 
-pub returns-then-number-ne0 : goal.returns-then-number-ne0
-returns-then-number-ne0 c =
+pub returns-in-Ok-clause-gives_back : goal.returns-in-Ok-clause-gives_back
+returns-in-Ok-clause-gives_back c =
     let z = c.args in
-    let m =
-    adjust_refused z.file.now z.keys.now z.weights.now c.read-given.ensures c.set_weights-adjusted.ensures c.handed_refusal-number.ensures c.if-number-ne0.true
-    c.refused.ensures in
-    record {
-      adjust_meets = m;
-      gives_back = gives_back z.file.now z.keys.now z.weights.now (λ p. (c.type_inv.file p).fits) m;
-    }
+    gives_back z.file.now z.keys.now z.weights.now (λ p. (c.type_inv.file p).fits)
+    (adjust_meets_is z.file.now z.keys.now z.weights.now z.out.now c.adjusted.ensures (c.accepted.ensures ∙ ap written_as (sym c.in-Ok.is)))
 
-pub returns : goal.returns
-returns c =
+pub returns-in-Err-clause-gives_back : goal.returns-in-Err-clause-gives_back
+returns-in-Err-clause-gives_back c =
     let z = c.args in
-    let m =
-    adjust_saved z.file.now z.keys.now z.weights.now c.read-given.ensures c.set_weights-adjusted.ensures c.handed_refusal-number.ensures c.if-number-ne0.false
-    c.write-answer.ensures refl in
-    record {
-      adjust_meets = m;
-      gives_back = gives_back z.file.now z.keys.now z.weights.now (λ p. (c.type_inv.file p).fits) m;
-    }
+    gives_back z.file.now z.keys.now z.weights.now (λ p. (c.type_inv.file p).fits)
+    (adjust_meets_is z.file.now z.keys.now z.weights.now z.out.now c.adjusted.ensures (c.refused.ensures ∙ ap written_as (sym c.in-Err.is)))

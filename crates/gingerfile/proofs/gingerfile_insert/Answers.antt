@@ -1,24 +1,24 @@
 -- As in the other calls; numbers that are no event's are refused as words that are no session's are. Assumes nothing.
-use mathlib.Core.Path.{refl, sym, ◌∙◌}
-use Rattle.gingerfile.proofs.Returns.{begun_long, insert_refused, insert_none, insert_made}
+use Rattle.std.proofs.Common.{refl, sym, ◌∙◌}
+use Rattle.gingerfile.proofs.Returns.{begun_long, insert_refused, insert_none, insert_made, event_told, no_event_told}
 use Rattle.gingerfile.proofs.gingerfile_insert.Goals as goal
 
-pub returns-then-number-ne0 : goal.returns-then-number-ne0
-returns-then-number-ne0 c =
-    let z = c.args in
-    insert_refused c.begin-begun.ensures z.kind z.key c.if-number-ne0.true c.refused.ensures refl
-
 pub keep-requires : goal.keep-requires
-keep-requires c =
-    begun_long c.begin-begun.ensures c.if-number-ne0.false
+keep-requires c = begun_long c.begin.ensures _ c.in-Ok.is
 
-pub returns-then-is_event : goal.returns-then-is_event
-returns-then-is_event c =
+pub returns-in-Some : goal.returns-in-Some
+returns-in-Some c =
     let z = c.args in
-    insert_made c.begin-begun.ensures z.kind z.key c.if-number-ne0.false (sym c.is_event.ensures ∙ c.if-is_event.true)
-    (rw c.event_of-event.ensures at c.insert-outcome.ensures) c.keep.ensures
+    let told = event_told z.kind z.key z.velocity _ (sym c.event_of.ensures ∙ c.in-Some.is) in
+    insert_made c.begin.ensures _ c.in-Ok.is z.kind z.key told.0 (rw told.1 at c.insert-outcome.ensures) c.keep.ensures
 
-pub returns : goal.returns
-returns c =
+pub returns-in-None : goal.returns-in-None
+returns-in-None c =
     let z = c.args in
-    insert_none c.begin-begun.ensures z.kind z.key c.if-number-ne0.false (sym c.is_event.ensures ∙ c.if-is_event.false) c.refused-2.ensures refl
+    let none = no_event_told z.kind z.key z.velocity (sym c.event_of.ensures ∙ c.in-None.is) in
+    insert_none c.begin.ensures _ c.in-Ok.is z.kind z.key none c.refused.ensures refl
+
+pub returns-in-Err : goal.returns-in-Err
+returns-in-Err c =
+    let z = c.args in
+    insert_refused c.begin.ensures _ c.in-Err.is z.kind z.key c.refused-in-Err.ensures refl

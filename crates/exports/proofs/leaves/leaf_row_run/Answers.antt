@@ -3,12 +3,12 @@ use Rattle.std.proofs.Common.{rules}
 use Rattle.exports.proofs.Runs.{ran_start, ran_turn, ran_end}
 use Rattle.exports.proofs.leaves.leaf_row_run.Goals as goal
 
-pub loop-i-init : goal.loop-i-init
-loop-i-init c = ran_start _ _
+pub loop-number-init : goal.loop-number-init
+loop-number-init c = ran_start _ _
 
-pub loop-i-preserved : goal.loop-i-preserved
-loop-i-preserved c =
-    ran_turn c.loop-i.invariant c.loop-i-test.true (search rules) c.dispersion.ensures.0 c.dispersion.ensures.1
+pub loop-number-preserved : goal.loop-number-preserved
+loop-number-preserved c =
+    ran_turn c.loop-number.invariant c.loop-number-test.true (search rules) c.dispersion.ensures.0 c.dispersion.ensures.1
 
 pub returns : goal.returns
-returns c = ran_end c.loop-i.invariant c.loop-i-test.false
+returns c = ran_end c.loop-number.invariant c.loop-number-test.false
