@@ -170,7 +170,9 @@ fn refuse_weight(
     let weight = str::from_utf8(word).unwrap_or("");
     let number = refusal.number();
     let key = pair.key;
-    let line = InlineText::<128>::of(format_args!("refused {number}: the weight {weight} of key {key} is not from 0 to 100"));
+    let line = InlineText::<128>::of(format_args!(
+        "refused {number}: the weight {weight} of key {key} is not from 0 to 100"
+    ));
     let _ = program.answer_of(path, line.as_str());
 }
 

@@ -1,6 +1,9 @@
 // What the system knows of a file, and a clock that no one sets. No public function has a `requires`.
 #![tactic(auto)]
 
+ghost use Rattle.std.specs.Prelude.{◌≡◌, ◌↔◌, IsTrue};
+ghost use Rattle.file_status.specs.declared.kind.FileKind.TheVariants.{Regular};
+
 mod clock;
 mod kind;
 
@@ -25,7 +28,9 @@ pub struct FileStatus {
 }
 
 impl FileStatus {
-    pub fn is_regular(self) -> bool {
+    pub fn is_regular(self) -> bool
+        ensures { IsTrue result ↔ (self.kind ≡ Regular) }
+    {
         self.kind == FileKind::Regular
     }
 }

@@ -1,4 +1,7 @@
 // Lines on standard error: which program, which file or word, and what is wrong with it.
+ghost use Rattle.std.specs.Prelude.{◌≡◌};
+ghost use Rattle.program.specs.declared.arguments.Failure.TheVariants.{Wrong};
+
 use crate::arguments::Failure;
 use crate::system::{Program, System};
 use std::fmt::{Display, InlineText};
@@ -7,7 +10,9 @@ use std::{fmt, io};
 
 impl<'a, R: System> Program<'a, R> {
     // What is wrong with a file or a word. Where standard error does not take the line, there is nobody to tell.
-    pub fn complain<D: Display + Drop>(&self, what: &str, words: D) -> Failure {
+    pub fn complain<D: Display + Drop>(&self, what: &str, words: D) -> Failure
+        ensures { result ≡ Wrong }
+    {
         let name = self.name;
         let _ = write!(self.rt.messages(), "{name}: {what}: {words}\n");
         Failure::Wrong
@@ -15,7 +20,9 @@ impl<'a, R: System> Program<'a, R> {
 
     // Of a word of the command line, by itself, or by what it stands for where there is none to show: it is empty, or longer than any that is meant. Its bytes are shown as they are, which
     // may be no text.
-    pub fn complain_of_word(&self, word: &[u8], what: &str, words: &str) -> Failure {
+    pub fn complain_of_word(&self, word: &[u8], what: &str, words: &str) -> Failure
+        ensures { result ≡ Wrong }
+    {
         if word.is_empty() {
             return self.complain(what, words);
         }
@@ -28,7 +35,9 @@ impl<'a, R: System> Program<'a, R> {
     }
 
     // The words that the command line was to have.
-    pub fn explain(&self, words: &str) -> Failure {
+    pub fn explain(&self, words: &str) -> Failure
+        ensures { result ≡ Wrong }
+    {
         let name = self.name;
         let _ = write!(self.rt.messages(), "usage: {name} {words}\n");
         Failure::Wrong
@@ -61,7 +70,7 @@ const NOT_OPEN: i32 = 9;
 const DEVICE_FAILED: i32 = 5;
 
 // Whether the descriptor is closed, or not open for what was asked.
-pub fn is_not_open(error: io::Error) -> bool {
+pub(crate) fn is_not_open(error: io::Error) -> bool {
     error.raw_os_error() == Some(NOT_OPEN)
 }
 

@@ -133,12 +133,12 @@ impl Output {
 }
 
 // A file that is there, for reading and writing.
-pub fn open_update(rt: &impl System, path: &str) -> io::Result<File> {
+pub(crate) fn open_update(rt: &impl System, path: &str) -> io::Result<File> {
     OpenOptions::new().read(true).write(true).open(rt, path)
 }
 
 // A file that is not there yet.
-pub fn create(rt: &impl System, path: &str) -> io::Result<File> {
+pub(crate) fn create(rt: &impl System, path: &str) -> io::Result<File> {
     OpenOptions::new()
         .write(true)
         .create_new(true)
@@ -191,7 +191,7 @@ pub struct Unfinished {
 
 impl Unfinished {
     // Of a write that came after others.
-    pub fn behind(self, done: usize) -> Unfinished {
+    pub(crate) fn behind(self, done: usize) -> Unfinished {
         Unfinished {
             count: done.saturating_add(self.count),
             error: self.error,
