@@ -47,7 +47,10 @@ impl fmt::Display for Plan {
         let factor = plan.factor;
         let outputs = plan.outputs();
         let thinned = plan.thinned_rate();
-        write!(f, "{count} samples at {rate} Hz, factor {factor}: {outputs} samples at {thinned} Hz")
+        write!(
+            f,
+            "{count} samples at {rate} Hz, factor {factor}: {outputs} samples at {thinned} Hz"
+        )
     }
 }
 
@@ -72,13 +75,6 @@ const BLOCK: usize = 63;
 // The largest window: 126 outputs' worth of 64 samples, and 64 samples.
 const WINDOW: usize = 8128;
 
-// The memory of a block.
-struct Space {
-    samples: [f64; WINDOW],
-    outputs: [f64; 256],
-    bytes: [u8; 16384],
-}
-
 // The window of the block whose first output starts from sample `at`.
 fn window_of(plan: Plan, at: usize) -> Window
     ensures { result.samples ≤ 8128 }
@@ -88,7 +84,11 @@ fn window_of(plan: Plan, at: usize) -> Window
     let first = at - back;
     Window {
         first,
-        samples: plan.signal.count.saturating_sub(first).min(back + reach + 64),
+        samples: plan
+            .signal
+            .count
+            .saturating_sub(first)
+            .min(back + reach + 64),
         dropped: if at == 0 { 0 } else { BLOCK },
     }
 }
@@ -106,24 +106,28 @@ fn thin<'o>(
     Some(made)
 }
 
-// The block of `kept` outputs whose first starts from sample `at`.
+// The block of the outputs from `done` on. (A struct of the three buffers could not lend two of them at once.)
 fn append_block(
     wave: &mut Wave,
     source: &mut Source,
     plan: Plan,
     taps: &[f64; 127],
-    at: usize,
-    kept: usize,
-    space: &mut Space,
+    done: usize,
+    samples: &mut [f64; WINDOW],
+    outputs: &mut [f64; 256],
+    bytes: &mut [u8; 16384],
 ) -> Result<(), BlockError> {
-    let window = window_of(plan, at);
-    let samples = &mut space.samples[..window.samples];
-    let offset = plan.signal.start.saturating_add((window.first as u64).saturating_mul(8));
-    read_floats(source, offset, samples, &mut space.bytes).map_err(|_| BlockError::Read)?;
-    let made = thin(plan.factor, taps, samples, &mut space.outputs).ok_or(BlockError::Read)?;
+    let window = window_of(plan, done.saturating_mul(plan.stride()));
+    let samples = &mut samples[..window.samples];
+    let offset = (window.first as u64)
+        .saturating_mul(8)
+        .saturating_add(plan.signal.start);
+    read_floats(source, offset, samples, bytes).map_err(|_| BlockError::Read)?;
+    let made = thin(plan.factor, taps, samples, outputs).ok_or(BlockError::Read)?;
+    let kept = plan.outputs().saturating_sub(done).min(BLOCK);
     let last = window.dropped.saturating_add(kept);
     let block = made.get(window.dropped..last).ok_or(BlockError::Read)?;
-    wave.append(block, &mut space.bytes).map_err(BlockError::Write)
+    wave.append(block, bytes).map_err(BlockError::Write)
 }
 
 // All outputs, block after block, until a read or a write fails.
@@ -133,16 +137,20 @@ pub fn append_all(
     plan: Plan,
     taps: &[f64; 127],
 ) -> Result<(), BlockError> {
-    let mut space = Space {
-        samples: [0.0; WINDOW],
-        outputs: [0.0; 256],
-        bytes: [0; 16384],
-    };
-    let outputs = plan.outputs();
-    for done in (0..outputs).step_by(BLOCK) {
-        let at = done.saturating_mul(plan.stride());
-        let kept = outputs.saturating_sub(done).min(BLOCK);
-        append_block(wave, source, plan, taps, at, kept, &mut space)?;
+    let mut samples = [0.0; WINDOW];
+    let mut outputs = [0.0; 256];
+    let mut bytes = [0u8; 16384];
+    for done in (0..plan.outputs()).step_by(BLOCK) {
+        append_block(
+            wave,
+            source,
+            plan,
+            taps,
+            done,
+            &mut samples,
+            &mut outputs,
+            &mut bytes,
+        )?;
     }
     Ok(())
 }

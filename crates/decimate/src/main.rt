@@ -94,9 +94,7 @@ fn decimate(
     let plan = Plan { signal, factor };
     match write_out(&mut source, plan, &taps, out) {
         Ok(()) => report(program, plan),
-        Err(BlockError::Read) => {
-            Err(program.complain(input, "it could not be read to its end"))
-        }
+        Err(BlockError::Read) => { Err(program.complain(input, "it could not be read to its end")) }
         Err(BlockError::Write(e)) => Err(program.complain(output, TransferError(e))),
     }
 }

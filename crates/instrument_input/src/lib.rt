@@ -21,11 +21,7 @@ pub struct Loaded {
 }
 
 // The refusal's line of answer. The status is that of a refusal also where standard output does not take it.
-pub fn answer_refusal(
-    program: &Program<'_, impl System>,
-    path: &str,
-    refusal: Refusal,
-) -> Failure {
+pub fn answer_refusal(program: &Program<'_, impl System>, path: &str, refusal: Refusal) -> Failure {
     let line = InlineText::<128>::of(refusal);
     let _ = program.answer_of(path, line.as_str());
     Failure::Refused

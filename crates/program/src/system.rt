@@ -27,6 +27,7 @@ impl System for HostRuntime {
 }
 
 // A program that runs, by the name that its messages begin with.
+#[derive(Drop)]
 pub struct Program<'a, R: System> {
     pub rt: &'a R,
     pub name: &'static str,
