@@ -151,5 +151,3 @@ impl<const N: usize> Reader<N> {
         Ok(line.and_then(|place| bytes.get(place)))
     }
 }
-
-pub use crate::stored::row;
