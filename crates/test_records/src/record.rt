@@ -21,15 +21,9 @@ const LENT: usize = LAST_KEY + 1;
 
 pub const WORDS: usize = LENT + 1;
 
-fn embedded_instrument() -> Instrument {
-    let mut file = [0u8; 4096];
-    let n = embedded::put_instrument(&mut file);
-    let answer = instrument_file::read(little_endian::part(&file, 0, n));
-    answer.instrument
-}
-
-pub fn instrument_of(words: &[u64; WORDS]) -> Instrument {
-    let mut i = embedded_instrument();
+// The instrument that `rehearse` has inside, with the numbers of the words. It is a file that is accepted.
+pub fn instrument_of(words: &[u64; WORDS]) -> Option<Instrument> {
+    let mut i = embedded_instrument()?;
     i.string_count = words[STRINGS] as usize;
     i.key_count = words[KEYS] as usize;
     i.common.fs = little_endian::float_of(words[RATE]);
