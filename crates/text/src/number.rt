@@ -1,204 +1,97 @@
-// Numbers as words have them.
-ghost use Rattle.std.specs.Prelude.{◌≡◌, ◌≤◌};
+// Numbers as words have them, and the bits of floats as text has them.
+use little_endian::{bits_of, float_of};
+use std::fmt;
+use std::num::{IntErrorKind, nearest_u64_to_f64};
+use std::str;
 
-use little_endian::{byte_at, float_of, part};
-
-// A number of up to 64 bits; digits alone that are more; or no number.
-#[derive(Clone, Copy)]
-pub enum Number {
-    Value(u64),
+// Why a word is no number of up to 64 bits: it is none at all, or its digits are too many.
+#[derive(Clone, Copy, Debug, PartialEq, Eq)]
+pub enum NumberError {
+    NotANumber,
     TooLarge,
-    None,
 }
 
-// Any float, or no number.
-#[derive(Clone, Copy)]
-pub enum Real {
-    Value(f64),
-    None,
-}
-
-fn wide(b: u8) -> u64
-    ensures { result ≡ b }
-{
-    b as u64
-}
-
-// A hexadecimal digit; 16 for any other byte.
-fn digit(b: u8) -> u64
-    ensures { result ≤ 16 }
-{
-    match b {
-        b'0'..=b'9' => wide(b - b'0'),
-        b'A'..=b'F' => wide(b - b'A') + 10,
-        b'a'..=b'f' => wide(b - b'a') + 10,
-        _ => 16,
+// A decimal number: digits alone.
+pub fn number_of(word: &[u8]) -> Result<u64, NumberError> {
+    if !word.iter().all(|b| b.is_ascii_digit()) {
+        return Err(NumberError::NotANumber);
     }
+    let digits = str::from_utf8(word).map_err(|_| NumberError::NotANumber)?;
+    digits.parse::<u64>().map_err(|e| match e.kind() {
+        IntErrorKind::PosOverflow => NumberError::TooLarge,
+        _ => NumberError::NotANumber,
+    })
 }
 
-// What the digits gave so far, and whether they fit into 64 bits.
-#[derive(Clone, Copy)]
-struct Digits {
-    n: u64,
-    fits: bool,
-}
-
-fn with_digit(x: Digits, d: u64) -> Digits {
-    if (u64::MAX - d) / 10 < x.n {
-        return Digits {
-            n: x.n,
-            fits: false,
-        };
-    }
-    Digits {
-        n: x.n * 10 + d,
-        fits: x.fits,
-    }
-}
-
-// A decimal number.
-pub fn number_of(word: &[u8]) -> Number {
-    if word.len() == 0 {
-        return Number::None;
-    }
-    let mut x = Digits { n: 0, fits: true };
-    for i in 0..word.len() {
-        let d = digit(word[i]);
-        if 9 < d {
-            return Number::None;
-        }
-        let next = with_digit(x, d);
-        x = next;
-    }
-    if x.fits {
-        Number::Value(x.n)
-    } else {
-        Number::TooLarge
-    }
-}
-
-// Up to sixteen hexadecimal digits.
-pub fn hexadecimal_of(word: &[u8]) -> Number {
+// Up to sixteen hexadecimal digits; none are 0.
+pub fn hexadecimal_of(word: &[u8]) -> Result<u64, NumberError> {
     if 16 < word.len() {
-        return Number::TooLarge;
+        return Err(NumberError::TooLarge);
     }
     let mut n = 0u64;
-    for i in 0..word.len() {
-        let d = digit(word[i]);
-        if 15 < d {
-            return Number::None;
-        }
-        n = n % 0x1000_0000_0000_0000 * 16 + d;
+    for b in word {
+        let digit = char::from(*b)
+            .to_digit(16)
+            .ok_or(NumberError::NotANumber)?;
+        n = (n << 4) | u64::from(digit);
     }
-    Number::Value(n)
+    Ok(n)
 }
 
 // A float's bits: sixteen digits.
-fn bits(word: &[u8]) -> Real {
-    if word.len() != 16 {
-        return Real::None;
+fn float_in(digits: &[u8]) -> Option<f64> {
+    if digits.len() != 16 {
+        return None;
     }
-    let n = hexadecimal_of(word);
-    match n {
-        Number::Value(b) => Real::Value(float_of(b)),
-        _ => Real::None,
-    }
+    hexadecimal_of(digits).ok().map(|bits| float_of(bits))
 }
 
 // Ten to the power of n: exact up to 22.
-fn ten_to(n: u32) -> f64 {
-    let mut x = 1.0;
-    for i in 0..n {
-        x = x * 10.0;
-    }
-    x
+fn ten_to(n: usize) -> f64 {
+    (0..n).fold(1.0, |x, _| x * 10.0)
 }
 
-// What the bytes of a decimal gave so far: their digits as one number, how many, how many of them
-// behind the point, and whether the bytes are a decimal so far.
-#[derive(Clone, Copy)]
-struct Decimal {
-    n: u64,
-    count: u32,
-    behind: u32,
-    point: bool,
-    good: bool,
+// The number with decimal digits behind its own.
+fn with_digits(number: u64, digits: &str) -> Option<u64> {
+    digits.chars().try_fold(number, |n, c| {
+        n.checked_mul(10)?.checked_add(u64::from(c.to_digit(10)?))
+    })
 }
 
-// A byte that is no digit may be the point.
-fn with_point(x: Decimal, b: u8) -> Decimal
-    ensures { (result.count ≡ x.count) × (result.behind ≡ x.behind) }
-{
-    let good = x.good & (b == b'.') & !x.point;
-    Decimal {
-        n: x.n,
-        count: x.count,
-        behind: x.behind,
-        point: true,
-        good,
+// Digits with at most one point among them. Fifteen digits and a power of ten up to the fifteenth are floats exactly, so the one division rounds once.
+fn decimal_of(number: &str) -> Option<f64> {
+    let (whole, fraction) = number.split_once('.').unwrap_or((number, ""));
+    let count = whole.len().saturating_add(fraction.len());
+    if count == 0 || 15 < count {
+        return None;
     }
-}
-
-fn with_byte(x: Decimal, b: u8) -> Decimal
-    requires { (x.count ≤ 15) × (x.behind ≤ x.count) }
-    ensures { (result.count ≤ 15) × (result.behind ≤ result.count) }
-{
-    let d = digit(b);
-    if 9 < d {
-        return with_point(x, b);
-    }
-    let mut next = x;
-    if x.count == 15 {
-        next.good = false;
-        return next;
-    }
-    next.n = x.n % 100_000_000_000_000 * 10 + d;
-    next.count = x.count + 1;
-    if x.point {
-        next.behind = x.behind + 1;
-        return next;
-    }
-    next
-}
-
-// Digits with at most one point among them. Fifteen digits and a power of ten up to the
-// fifteenth are floats exactly, so the one division rounds once.
-fn decimal_of(word: &[u8]) -> Real {
-    let mut x = Decimal {
-        n: 0,
-        count: 0,
-        behind: 0,
-        point: false,
-        good: true,
-    };
-    for i in 0..word.len() {
-        let next = with_byte(x, word[i]);
-        x = next;
-    }
-    if !x.good | (x.count == 0) {
-        return Real::None;
-    }
-    Real::Value(std::num::nearest_u64_to_f64(x.n) / ten_to(x.behind))
-}
-
-fn negated(v: Real) -> Real {
-    match v {
-        Real::Value(x) => Real::Value(-x),
-        Real::None => Real::None,
-    }
+    let n = with_digits(with_digits(0, whole)?, fraction)?;
+    Some(nearest_u64_to_f64(n) / ten_to(fraction.len()))
 }
 
 // A decimal with an optional sign and fraction, of at most fifteen digits, or 0x and the bits.
-pub fn real_of(word: &[u8]) -> Real {
-    let first = byte_at(word, 0);
-    if (first == b'0') & (byte_at(word, 1) == b'x') {
-        return bits(part(word, 2, word.len()));
+pub fn real_of(word: &[u8]) -> Option<f64> {
+    if let Some(digits) = word.strip_prefix(b"0x") {
+        return float_in(digits);
     }
-    if first == b'-' {
-        return negated(decimal_of(part(word, 1, word.len())));
+    let number = str::from_utf8(word).ok()?;
+    if let Some(size) = number.strip_prefix('-') {
+        return decimal_of(size).map(|x| -x);
     }
-    if first == b'+' {
-        return decimal_of(part(word, 1, word.len()));
+    decimal_of(number.strip_prefix('+').unwrap_or(number))
+}
+
+// A float's bits as text: sixteen hexadecimal digits, or `nan`.
+#[derive(Clone, Copy)]
+pub struct Bits(pub f64);
+
+impl fmt::Display for Bits {
+    fn fmt<W: fmt::Write>(&self, f: &mut fmt::Formatter<W>) -> fmt::Result {
+        let x = self.0;
+        if x != x {
+            return write!(f, "nan");
+        }
+        let bits = bits_of(x);
+        write!(f, "{bits:016x}")
     }
-    decimal_of(word)
 }

@@ -1,68 +1,43 @@
 // The words of a line: what stands between spaces and tabs.
-use little_endian::part;
-use std::num::wrapping_sub_usize;
+ghost use Rattle.std.specs.Prelude.{length};
+ghost use Rattle.std.specs.Iterator.{at_most};
 
 fn is_space(b: u8) -> bool {
-    (b == b' ') | (b == b'\t')
+    b == b' ' || b == b'\t'
 }
 
-// The first place from i on where the line has a space, or has none.
-fn skip(line: &[u8], i: usize, spaces: bool) -> usize {
-    let mut k = i;
-    while k < line.len() {
-        if is_space(line[k]) != spaces {
-            return k;
+// One word after the other, of what is left of the line.
+#[derive(Clone, Copy)]
+pub struct Words<'a> {
+    rest: &'a [u8],
+}
+
+pub fn words_of(line: &[u8]) -> Words<'_> {
+    Words { rest: line }
+}
+
+impl<'a> Iterator for Words<'a> {
+    type Item = &'a [u8];
+
+    ghost remaining = { λ words. at_most (length words.rest.now) };
+
+    fn next(&mut self) -> Option<&'a [u8]> {
+        let start = self.rest.iter().position(|b| !is_space(*b))?;
+        let word = &self.rest[start..];
+        match word.iter().position(|b| is_space(*b)) {
+            Some(end) => {
+                self.rest = &word[end + 1..];
+                Some(&word[..end])
+            }
+            None => {
+                self.rest = b"";
+                Some(word)
+            }
         }
-        k += 1;
     }
-    k
-}
-
-fn word_end(line: &[u8], at: usize) -> usize {
-    skip(line, skip(line, at, true), false)
-}
-
-// The first word from `at` on; empty where there is none.
-fn next_word(line: &[u8], at: usize) -> &[u8] {
-    let start = skip(line, at, true);
-    let end = skip(line, start, false);
-    part(line, start, wrapping_sub_usize(end, start))
 }
 
 // Word n, counted from 0; empty where the line has fewer.
 pub fn word_at(line: &[u8], n: usize) -> &[u8] {
-    let mut at = 0usize;
-    for i in 0..n {
-        at = word_end(line, at);
-    }
-    next_word(line, at)
-}
-
-// How many words a line has, counted up to 7.
-pub fn word_count(line: &[u8]) -> usize {
-    let mut at = 0usize;
-    for i in 0..7usize {
-        let start = skip(line, at, true);
-        if line.len() <= start {
-            return i;
-        }
-        at = skip(line, start, false);
-    }
-    7
-}
-
-// Which of the list's words it is, counted from 0, or how many they are; a list has at most 64.
-pub fn place_of(word: &[u8], list: &[u8]) -> usize {
-    let mut at = 0usize;
-    for i in 0..64usize {
-        let other = next_word(list, at);
-        if other.len() == 0 {
-            return i;
-        }
-        if check::same(word, other) {
-            return i;
-        }
-        at = word_end(list, at);
-    }
-    64
+    words_of(line).nth(n).unwrap_or(b"")
 }
