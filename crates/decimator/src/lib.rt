@@ -5,6 +5,9 @@ ghost use Rattle.std.specs.Prelude.{◌≡◌, ◌*◌, ◌<◌, length};
 ghost use Rattle.counting.specs.Below.{tabulate};
 ghost use Rattle.decimator.specs.Decimate.{refusal_of, weighed, filtered_at, output_length, DecimateMeets};
 ghost use Rattle.decimator.specs.Steps.{Thins};
+ghost use Rattle.refusal.specs.Refusal.{number_in};
+
+use refusal::Refusal;
 
 const MOST: usize = 0x10_0000;
 
@@ -23,24 +26,21 @@ pub fn output_length(n: usize, factor: usize) -> usize
     }
 }
 
-// The refusal's number, 0 for none.
+// Whether a signal of n samples can be thinned.
 #[tactic(auto, using(crate::proofs::Cases::refusals))]
-fn refusal(n: usize, taps: usize, factor: usize, room: usize) -> u32
-    ensures { result ≡ refusal_of n taps factor room }
+fn test(n: usize, taps: usize, factor: usize, room: usize) -> Result<(), Refusal>
+    ensures { number_in result ≡ refusal_of n taps factor room }
 {
-    if 64 < factor {
-        return 17;
-    }
-    if MOST < n {
-        return 17;
+    if factor > 64 || n > MOST {
+        return Err(Refusal::SignalLength);
     }
     if taps != TAPS {
-        return 18;
+        return Err(Refusal::Taps);
     }
     if room != output_length(n, factor) {
-        return 19;
+        return Err(Refusal::OutputLength);
     }
-    0
+    Ok(())
 }
 
 // Tap k on the sample it meets where tap 63 meets sample `at`; none past either end.
@@ -71,15 +71,6 @@ fn filtered_at(x: &[f64], taps: &[f64], at: usize) -> f64
     sum
 }
 
-fn copy(x: &[f64], out: &mut [f64])
-    requires { length out.old ≡ length x.now }
-    ensures { out.new ≡ x.now }
-{
-    for i in 0..x.len() {
-        out[i] = x[i];
-    }
-}
-
 // Every factor-th sample, filtered.
 fn thin(x: &[f64], taps: &[f64], factor: usize, out: &mut [f64])
     requires { Thins x.now taps.now factor out.old }
@@ -90,18 +81,15 @@ fn thin(x: &[f64], taps: &[f64], factor: usize, out: &mut [f64])
     }
 }
 
-// The input through the taps, every factor-th sample of it, into `out`; 0, or the refusal's number.
-pub fn decimate(x: &[f64], taps: &[f64], factor: usize, out: &mut [f64]) -> u32
-    ensures { DecimateMeets x.now taps.now factor out.old result out.new }
+// The input through the taps, every factor-th sample of it, into `out`.
+pub fn decimate(x: &[f64], taps: &[f64], factor: usize, out: &mut [f64]) -> Result<(), Refusal>
+    ensures { DecimateMeets x.now taps.now factor out.old (number_in result) out.new }
 {
-    let n = refusal(x.len(), taps.len(), factor, out.len());
-    if n != 0 {
-        return n;
-    }
+    test(x.len(), taps.len(), factor, out.len())?;
     if factor <= 1 {
-        copy(x, out);
+        out.copy_from_slice(x);
     } else {
         thin(x, taps, factor, out);
     }
-    0
+    Ok(())
 }

@@ -3,7 +3,7 @@
 
 ghost use Rattle.std.specs.Prelude.{◌≡◌, true, not, ◌*◌, ◌≤◌, ◌<◌, eqb};
 ghost use Rattle.instrument.specs.Valid.{keys_in_range, string_sum, new_key, keys_apart, keys_unused, strings_in_range, strings_unused, counted, keys_valid, strings_valid, valid};
-ghost use Rattle.instrument.specs.KeyIndex.{key_index};
+ghost use Rattle.instrument.specs.KeyIndex.{key_place};
 ghost use Rattle.instrument.specs.Work.{counted_cells, counted_part};
 
 use instrument_fields::{
@@ -80,18 +80,13 @@ pub fn keys_apart(keys: [KeyDesign; 16], n: usize) -> bool
 
 // ---- the key of a number
 
-// The index of the key of that number; the number of keys where there is none.
-pub fn key_index(instrument: Instrument, key: u8) -> usize
+// The index of the key of that number.
+pub fn key_index(instrument: Instrument, key: u8) -> Option<usize>
     requires { instrument.key_count ≤ 16 }
-    ensures { result ≡ key_index instrument.keys 0 instrument.key_count key }
+    ensures { result ≡ key_place instrument key }
 {
-    for k in 0..instrument.key_count {
-        let d = instrument.keys[k];
-        if d.key == key {
-            return k;
-        }
-    }
-    instrument.key_count
+    let keys = &instrument.keys[..instrument.key_count];
+    keys.iter().position(|k| k.key == key)
 }
 
 // ---- refusal 7: an instrument handed in

@@ -1,5 +1,5 @@
 -- Document 01, "Instrument file": the record that a file gives, or the first of the refusals 1 to 6 that the whole file meets. Definitions only: assumes nothing.
-use Rattle.std.specs.Prelude.{ℕ, ◌+◌, ◌-◌, ◌*◌, List, [], ◌∷◌, Bool, not, cond, leb, ltb, eqb, length, take, drop}
+use Rattle.std.specs.Prelude.{ℕ, ◌+◌, ◌-◌, ◌*◌, List, [], ◌∷◌, Bool, not, cond, leb, ltb, eqb, length, take, drop, Result, Ok, Err}
 use Rattle.little_endian.specs.Numbers.{byte_at, u32_at}
 use Rattle.instrument_fields.specs.declared.KeyDesign.{KeyDesign}
 use Rattle.instrument_fields.specs.declared.LoopDesign.{LoopDesign}
@@ -8,7 +8,8 @@ use Rattle.instrument_fields.specs.Fields.{common_of, key_of, loop_of}
 use Rattle.instrument_fields.specs.Ranges.{common_in_range, key_in_range, string_in_range}
 use Rattle.instrument_fields.specs.Unused.{no_common, no_key, no_string}
 use Rattle.instrument.specs.declared.Instrument.{Instrument}
-use Rattle.instrument_file.specs.declared.ReadAnswer.{ReadAnswer}
+use Rattle.refusal.specs.declared.Refusal.{Refusal}
+use Rattle.refusal.specs.Refusal.{numbered}
 use Rattle.counting.specs.Below.{all_below, gather, tabulate, pad}
 use Rattle.instrument.specs.Valid.{string_sum, keys_apart}
 
@@ -72,18 +73,24 @@ instrument_of f n = record {
   strings = pad 32 no_string (strings_in f n);
 }
 
--- a refusal's answer holds zeros beside its number
+-- the record of zeros
 abbrev pub no_instrument : Instrument
 no_instrument = record { common = no_common; key_count = 0; string_count = 0; keys = pad 16 no_key []; strings = pad 32 no_string [] }
 
-abbrev pub refused : ℕ → ReadAnswer
-refused number = record { refusal = number; instrument = no_instrument }
+-- a refused file's answer is the refusal of that number, an accepted file's the record
+abbrev pub refused : ℕ → Result Instrument Refusal
+refused number = Err (numbered number)
 
-abbrev pub accepted : Instrument → ReadAnswer
-accepted i = record { refusal = 0; instrument = i }
+abbrev pub accepted : Instrument → Result Instrument Refusal
+accepted i = Ok i
+
+-- the record in an answer; zeros where the file is refused
+abbrev pub instrument_in : Result Instrument Refusal → Instrument
+instrument_in (Ok i) = i
+instrument_in (Err e) = no_instrument
 
 -- "reading a file 1 to 6", in this order; 5: "There are more than 32 strings."; 6: "A key number comes twice."
-unfoldable pub read_of : List ℕ → ReadAnswer
+unfoldable pub read_of : List ℕ → Result Instrument Refusal
 read_of f =
     let n = u32_at f 0 - 1 in
     let i = instrument_of f n in

@@ -8,21 +8,15 @@ ghost use Rattle.little_endian.specs.Numbers.{u32_at};
 ghost use Rattle.instrument_fields.specs.Ranges.{string_in_range};
 ghost use Rattle.instrument_fields.specs.Unused.{no_key, no_string};
 ghost use Rattle.instrument.specs.Valid.{string_sum};
-ghost use Rattle.instrument_file.specs.File.{offset_of, length_of, section, key_section, headed, linked, chained, measured_key, measured, loop_in, fielded_key, fielded, keys_in, strings_in, instrument_of, refused, accepted, read_of};
+ghost use Rattle.instrument_file.specs.File.{offset_of, length_of, section, key_section, headed, linked, chained, measured_key, measured, loop_in, fielded_key, fielded, keys_in, strings_in, instrument_of, read_of};
 
 use instrument::{Instrument, keys_apart, string_sum};
 use instrument_fields::{
-    KeyDesign, LoopDesign, common_in_range, key_in_range, no_common, no_key, no_string,
+    KeyDesign, LoopDesign, common_in_range, key_in_range, no_key, no_string,
     read_common, read_key, read_loop, size_8, string_in_range,
 };
 use little_endian::{byte_at, part, u32_at};
-
-// The refusal's number and an instrument of zeros, or 0 and what the file gives.
-#[derive(Clone, Copy)]
-pub struct ReadAnswer {
-    pub refusal: u32,
-    pub instrument: Instrument,
-}
+use refusal::Refusal;
 
 // ---- the table and the sections
 
@@ -217,71 +211,46 @@ fn strings_of(f: &[u8], n: usize, keys: [KeyDesign; 16]) -> [LoopDesign; 32]
 
 // ---- reading
 
-fn refuse(number: u32) -> ReadAnswer
-    ensures { result ≡ refused number }
-{
-    let common = no_common();
-    let key = no_key();
-    let string = no_string();
-    let keys = [key; 16];
-    let strings = [string; 32];
-    let instrument = Instrument {
-        common: common,
-        key_count: 0,
-        string_count: 0,
-        keys: keys,
-        strings: strings,
-    };
-    ReadAnswer {
-        refusal: number,
-        instrument: instrument,
-    }
-}
-
-fn accept(f: &[u8], n: usize, m: usize, keys: [KeyDesign; 16]) -> ReadAnswer
+fn instrument_of(f: &[u8], n: usize, m: usize, keys: [KeyDesign; 16]) -> Instrument
     requires { (n ≤ 16) × (keys ≡ pad 16 no_key (keys_in f.now n)) × (m ≡ string_sum keys n) × (m ≤ 32) }
-    ensures { result ≡ accepted (instrument_of f.now n) }
+    ensures { result ≡ instrument_of f.now n }
 {
     let common = read_common(section_at(f, 0));
     let strings = strings_of(f, n, keys);
-    let instrument = Instrument {
-        common: common,
+    Instrument {
+        common,
         key_count: n,
         string_count: m,
-        keys: keys,
-        strings: strings,
-    };
-    ReadAnswer {
-        refusal: 0,
-        instrument: instrument,
+        keys,
+        strings,
     }
 }
 
 // The instrument of a file, or the first refusal of 1 to 6 that the whole file meets.
 #[tactic(auto, using(crate::proofs::Order::refused_over))]
-pub fn read(f: &[u8]) -> ReadAnswer
+pub fn read(f: &[u8]) -> Result<Instrument, Refusal>
     ensures { result ≡ read_of f.now }
 {
     if !is_headed(f) {
-        return refuse(1);
+        return Err(Refusal::SectionCount);
     }
     let n = key_count(f);
     if !is_chained(f, n) {
-        return refuse(2);
+        return Err(Refusal::Chain);
     }
     if !is_measured(f, n) {
-        return refuse(3);
+        return Err(Refusal::SectionLength);
     }
     if !is_fielded(f, n) {
-        return refuse(4);
+        return Err(Refusal::Field);
     }
     let keys = keys_of(f, n);
     let m = string_sum(keys, n);
     if 32 < m {
-        return refuse(5);
+        return Err(Refusal::ManyStrings);
     }
     if !keys_apart(keys, n) {
-        return refuse(6);
+        return Err(Refusal::KeyTwice);
     }
-    accept(f, n, m, keys)
+    Ok(instrument_of(f, n, m, keys))
 }

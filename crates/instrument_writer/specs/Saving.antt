@@ -1,21 +1,21 @@
 -- W4's two sentences, about the calls: the reader, `instrument_file::read`, and the writer by their contracts. Assumes nothing.
-use Rattle.std.specs.Prelude.{◌≡◌, refl, true, List, ◌++◌, ℕ, zero, suc, ◌≤◌, length, take, drop}
+use Rattle.std.specs.Prelude.{◌≡◌, refl, true, List, ◌++◌, ℕ, zero, suc, ◌≤◌, length, take, drop, Result}
 use Rattle.std.proofs.Common.{sym, ap, ◌∙◌, subst, arith}
 use borrow.Author.Tests.{le-ltb}
 use Rattle.little_endian.specs.Bytes.{Bytes}
 use Rattle.instrument.specs.declared.Instrument.{Instrument}
 use Rattle.instrument.specs.Valid.{valid}
-use Rattle.instrument_file.specs.declared.ReadAnswer.{ReadAnswer}
-use Rattle.instrument_file.specs.File.{accepted, read_of}
+use Rattle.refusal.specs.declared.Refusal.{Refusal}
+use Rattle.refusal.specs.Refusal.{number_in}
+use Rattle.instrument_file.specs.File.{accepted, instrument_in, read_of}
 use Rattle.instrument_encoding.specs.Encode.{encode}
 use Rattle.instrument_encoding.specs.Accepted.{accepted_valid}
 use Rattle.instrument_encoding.proofs.Rewritten.{read_encode}
-use Rattle.instrument_writer.specs.declared.WriteAnswer.{WriteAnswer}
-use Rattle.instrument_writer.specs.Write.{write_refusal, wrote, WriteMeets}
+use Rattle.instrument_writer.specs.Write.{write_refusal, wrote, length_in, WriteMeets}
 
-module _ (bytes bytes' : List ℕ) (w : WriteAnswer) (a : ReadAnswer) where
+module _ (bytes bytes' : List ℕ) (w : Result ℕ Refusal) (a : Result Instrument Refusal) where
   -- an answer of 0 is that of an accepted call
-  none_refused : (i : Instrument) → WriteMeets i bytes w bytes' → w.refusal ≡ 0 → write_refusal i (length bytes) ≡ 0
+  none_refused : (i : Instrument) → WriteMeets i bytes w bytes' → number_in w ≡ 0 → write_refusal i (length bytes) ≡ 0
   none_refused i write z = by_number (write_refusal i (length bytes)) refl
     where
       by_number : (n : ℕ) → write_refusal i (length bytes) ≡ n → write_refusal i (length bytes) ≡ 0
@@ -23,7 +23,7 @@ module _ (bytes bytes' : List ℕ) (w : WriteAnswer) (a : ReadAnswer) where
       by_number (suc n) e = let q = ap (λ (x : WriteAnswer). x.refusal) (write.refuses (λ o. omega arith)).0 in omega arith
 
   -- THE LAW: "Reading what it wrote gives the same record"
-  pub written_read : (i : Instrument) → WriteMeets i bytes w bytes' → w.refusal ≡ 0 → a ≡ read_of (take w.length bytes') → a ≡ accepted i
+  pub written_read : (i : Instrument) → WriteMeets i bytes w bytes' → number_in w ≡ 0 → a ≡ read_of (take (length_in w) bytes') → a ≡ accepted i
   written_read i write z read = read ∙ (write.accepts (none_refused i write z)).back
 
   room_for : (i : Instrument) → valid i ≡ true → length (encode i) ≤ length bytes → write_refusal i (length bytes) ≡ 0
@@ -31,7 +31,7 @@ module _ (bytes bytes' : List ℕ) (w : WriteAnswer) (a : ReadAnswer) where
   room_for i v h = rw (v, le-ltb (length bytes) (length (encode i)) h)
 
   -- THE LAW: "for each accepted file, reading and writing gives the same bytes", where as many are lent. f is of bytes, as every slice of them is
-  pub read_written : (f : List ℕ) → Bytes f → a ≡ read_of f → a.refusal ≡ 0 → WriteMeets a.instrument bytes w bytes' → length f ≤ length bytes
+  pub read_written : (f : List ℕ) → Bytes f → a ≡ read_of f → number_in a ≡ 0 → WriteMeets (instrument_in a) bytes w bytes' → length f ≤ length bytes
       → (w ≡ wrote (length f)) × (bytes' ≡ f ++ drop (length f) bytes)
   read_written f ok read z write room =
       let i = a.instrument in

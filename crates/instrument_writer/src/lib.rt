@@ -15,17 +15,10 @@ use instrument::Instrument;
 use instrument_encoding::is_given;
 use instrument_fields::{Common, KeyDesign, LoopDesign};
 use little_endian::{put_f64, put_u8, put_u16, put_u32};
+use refusal::Refusal;
 
 // No instrument's file is longer: 16 keys and 32 strings.
 pub const LONGEST_FILE: usize = 2200;
-
-// The refusal's number, 0 for none; how many bytes the file has, 0 where it is refused.
-#[repr(C)]
-#[derive(Clone, Copy)]
-pub struct WriteAnswer {
-    pub refusal: u32,
-    pub length: usize,
-}
 
 // ---- the sections
 
@@ -181,45 +174,24 @@ fn put_file(b: &mut [u8], i: Instrument)
     put_sections(b, 12 + 8 * i.key_count, i);
 }
 
-// The file's length; none for counts that no file has, so that the products cannot wrap.
-fn file_length(keys: usize, strings: usize) -> usize
-    ensures { result ≡ counted_length keys strings }
+fn file_length(i: Instrument) -> usize
+    requires { valid i ≡ true }
+    ensures { result ≡ length (encode i) }
 {
-    if 16 < keys {
-        return 0;
-    }
-    if 32 < strings {
-        return 0;
-    }
-    88 + 44 * keys + 44 * strings
-}
-
-// 7 comes before 20.
-fn refusal_of(is_wrong: bool, is_short: bool) -> u32
-    ensures { result ≡ cond is_wrong 7 (cond is_short 20 0) }
-{
-    if is_wrong {
-        return 7;
-    }
-    if is_short {
-        return 20;
-    }
-    0
+    88 + 44 * i.key_count + 44 * i.string_count
 }
 
 // Writes the instrument's file into the first bytes lent, or refuses as 7 or 20 and changes none.
-pub fn write(i: Instrument, bytes: &mut [u8]) -> WriteAnswer
+pub fn write(i: Instrument, bytes: &mut [u8]) -> Result<usize, Refusal>
     ensures { WriteMeets i bytes.old result bytes.new }
 {
-    let given = is_given(i);
-    let length = file_length(i.key_count, i.string_count);
-    let number = refusal_of(!given, bytes.len() < length);
-    if number != 0 {
-        return WriteAnswer {
-            refusal: number,
-            length: 0,
-        };
+    if !is_given(i) {
+        return Err(Refusal::Record);
+    }
+    let length = file_length(i);
+    if bytes.len() < length {
+        return Err(Refusal::FileRoom);
     }
     put_file(bytes, i);
-    WriteAnswer { refusal: 0, length }
+    Ok(length)
 }
