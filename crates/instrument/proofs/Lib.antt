@@ -1,3 +1,2 @@
-pub mod Added
+pub mod Lists
 pub mod Order
-pub mod Sought

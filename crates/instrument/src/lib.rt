@@ -1,8 +1,11 @@
 // The instrument's record. Refusal 7 on an instrument: the test of a handed-in record. "The session": S and W of a record.
 #![tactic(auto)]
 
-ghost use Rattle.std.specs.Prelude.{◌≡◌, true, not, ◌*◌, ◌≤◌, ◌<◌, eqb};
-ghost use Rattle.instrument.specs.Valid.{keys_in_range, string_sum, new_key, keys_apart, keys_unused, strings_in_range, strings_unused, counted, keys_valid, strings_valid, valid};
+ghost use Rattle.std.specs.Prelude.{◌≡◌, true, not, ◌*◌, ◌^◌, ◌≤◌, ◌<◌, eqb, length, sum_by, position};
+ghost use Rattle.std.specs.List.{list_all};
+ghost use Rattle.instrument_fields.specs.Ranges.{key_in_range, string_in_range};
+ghost use Rattle.instrument_fields.specs.Unused.{is_no_key, is_no_string};
+ghost use Rattle.instrument.specs.Valid.{keys_in_range, keys_apart, counted, keys_valid, strings_valid, valid};
 ghost use Rattle.instrument.specs.KeyIndex.{key_place};
 ghost use Rattle.instrument.specs.Work.{counted_cells, counted_part};
 
@@ -24,153 +27,114 @@ pub struct Instrument {
 
 // ---- tests that a file's record and a handed-in record share
 
-fn keys_in_range(keys: [KeyDesign; 16], n: usize) -> bool
-    requires { n ≤ 16 }
-    ensures { result ≡ keys_in_range keys n }
+// How many strings the keys have.
+pub fn string_sum(keys: &[KeyDesign]) -> usize
+    requires { sum_by (λ k. k.strings) keys.now < 2 ^ 64 }
+    ensures { result ≡ sum_by (λ k. k.strings) keys.now }
 {
-    let mut all = true;
-    for i in 0..n {
-        let k = keys[i];
-        all = all & key_in_range(k);
-    }
-    all
+    keys.iter().map(|k| k.strings).sum()
 }
 
-pub fn string_sum(keys: [KeyDesign; 16], n: usize) -> usize
-    requires { (n ≤ 16) × (keys_in_range keys n ≡ true) }
-    ensures { result ≡ string_sum keys n }
+fn is_new(keys: &[KeyDesign], number: u8) -> bool
+    ensures { result ≡ list_all (λ k. not (eqb k.key number)) keys.now }
 {
-    let mut m = 0usize;
-    for i in 0..n {
-        let k = keys[i];
-        m += k.strings;
-    }
-    m
+    keys.iter().all(|k| k.key != number)
 }
 
-fn differ(a: KeyDesign, b: KeyDesign) -> bool
-    ensures { result ≡ not (eqb a.key b.key) }
+// Whether no key has the number of one before it.
+pub fn keys_apart(keys: &[KeyDesign]) -> bool
+    ensures { result ≡ keys_apart keys.now (length keys.now) }
 {
-    !(a.key == b.key)
-}
-
-fn is_new_key(keys: [KeyDesign; 16], n: usize) -> bool
-    requires { n < 16 }
-    ensures { result ≡ new_key keys n }
-{
-    let last = keys[n];
-    let mut all = true;
-    for i in 0..n {
-        let k = keys[i];
-        all = all & differ(k, last);
+    let mut rest = keys;
+    while let Some((last, before)) = rest.split_last() {
+        if !is_new(before, last.key) {
+            return false;
+        }
+        rest = before;
     }
-    all
-}
-
-pub fn keys_apart(keys: [KeyDesign; 16], n: usize) -> bool
-    requires { n ≤ 16 }
-    ensures { result ≡ keys_apart keys n }
-{
-    let mut all = true;
-    for i in 0..n {
-        all = all & is_new_key(keys, i);
-    }
-    all
+    true
 }
 
 // ---- the key of a number
+
+fn place_of(keys: &[KeyDesign], number: u8) -> Option<usize>
+    ensures { result ≡ position (λ k. eqb k.key number) keys.now }
+{
+    keys.iter().position(|k| k.key == number)
+}
 
 // The index of the key of that number.
 pub fn key_index(instrument: Instrument, key: u8) -> Option<usize>
     requires { instrument.key_count ≤ 16 }
     ensures { result ≡ key_place instrument key }
 {
-    let keys = &instrument.keys[..instrument.key_count];
-    keys.iter().position(|k| k.key == key)
+    place_of(&instrument.keys[..instrument.key_count], key)
 }
 
 // ---- refusal 7: an instrument handed in
 
-fn keys_unused(keys: [KeyDesign; 16], m: usize) -> bool
-    requires { m ≤ 16 }
-    ensures { result ≡ keys_unused keys m }
+fn keys_in_range(keys: &[KeyDesign]) -> bool
+    ensures { result ≡ list_all key_in_range keys.now }
 {
-    let n = 16 - m;
-    let mut all = true;
-    for i in 0..n {
-        let k = keys[m + i];
-        all = all & is_no_key(k);
-    }
-    all
+    keys.iter().all(|k| key_in_range(*k))
 }
 
-fn strings_in_range(strings: [LoopDesign; 32], n: usize) -> bool
-    requires { n ≤ 32 }
-    ensures { result ≡ strings_in_range strings n }
+fn keys_unused(keys: &[KeyDesign]) -> bool
+    ensures { result ≡ list_all is_no_key keys.now }
 {
-    let mut all = true;
-    for i in 0..n {
-        let s = strings[i];
-        all = all & string_in_range(s);
-    }
-    all
+    keys.iter().all(|k| is_no_key(*k))
 }
 
-fn strings_unused(strings: [LoopDesign; 32], m: usize) -> bool
-    requires { m ≤ 32 }
-    ensures { result ≡ strings_unused strings m }
+fn strings_in_range(strings: &[LoopDesign]) -> bool
+    ensures { result ≡ list_all string_in_range strings.now }
 {
-    let n = 32 - m;
-    let mut all = true;
-    for i in 0..n {
-        let s = strings[m + i];
-        all = all & is_no_string(s);
-    }
-    all
+    strings.iter().all(|s| string_in_range(*s))
 }
 
-fn is_counted(i: Instrument) -> bool
-    ensures { result ≡ counted i }
+fn strings_unused(strings: &[LoopDesign]) -> bool
+    ensures { result ≡ list_all is_no_string strings.now }
+{
+    strings.iter().all(|s| is_no_string(*s))
+}
+
+fn is_counted(i: &Instrument) -> bool
+    ensures { result ≡ counted i.now }
 {
     (1 <= i.key_count) & (i.key_count <= 16) & (i.string_count <= 32)
 }
 
-fn keys_valid(i: Instrument) -> bool
-    requires { i.key_count ≤ 16 }
-    ensures { result ≡ keys_valid i }
+fn keys_valid(i: &Instrument) -> bool
+    requires { i.now.key_count ≤ 16 }
+    ensures { result ≡ keys_valid i.now }
 {
-    let keys = i.keys;
-    keys_in_range(keys, i.key_count)
-        & keys_apart(keys, i.key_count)
-        & keys_unused(keys, i.key_count)
+    let (keys, unused) = i.keys.split_at(i.key_count);
+    keys_in_range(keys) & keys_apart(keys) & keys_unused(unused)
 }
 
-fn strings_valid(i: Instrument) -> bool
-    requires { (i.key_count ≤ 16) × (i.string_count ≤ 32) × (keys_in_range i.keys i.key_count ≡ true) }
-    ensures { result ≡ strings_valid i }
+fn strings_valid(i: &Instrument) -> bool
+    requires { (i.now.key_count ≤ 16) × (i.now.string_count ≤ 32) × (keys_in_range i.now.keys i.now.key_count ≡ true) }
+    ensures { result ≡ strings_valid i.now }
 {
-    let keys = i.keys;
-    let strings = i.strings;
-    (string_sum(keys, i.key_count) == i.string_count)
-        & strings_in_range(strings, i.string_count)
-        & strings_unused(strings, i.string_count)
+    let (strings, unused) = i.strings.split_at(i.string_count);
+    (string_sum(&i.keys[..i.key_count]) == i.string_count)
+        & strings_in_range(strings)
+        & strings_unused(unused)
 }
 
 // Whether some accepted file gives the record: where not, a call that it is handed to answers 7.
 pub fn is_valid(i: Instrument) -> bool
     ensures { result ≡ valid i }
 {
-    let common = i.common;
-    if !common_in_range(common) {
+    if !common_in_range(i.common) {
         return false;
     }
-    if !is_counted(i) {
+    if !is_counted(&i) {
         return false;
     }
-    if !keys_valid(i) {
+    if !keys_valid(&i) {
         return false;
     }
-    strings_valid(i)
+    strings_valid(&i)
 }
 
 // ---- S and W
@@ -179,30 +143,27 @@ pub fn is_valid(i: Instrument) -> bool
 fn string_cells(s: LoopDesign) -> usize
     ensures { (result ≡ counted_cells s) × (result ≤ 4137) }
 {
-    if 2000 < s.n {
-        return 0;
-    }
-    if 66 < s.ap_count {
+    if s.n > 2000 || s.ap_count > 66 {
         return 0;
     }
     2 * s.n + 2 * s.ap_count + 5
+}
+
+fn cells_of(strings: &[LoopDesign]) -> usize
+    requires { sum_by counted_cells strings.now < 2 ^ 64 }
+    ensures { result ≡ sum_by counted_cells strings.now }
+{
+    strings.iter().map(|s| string_cells(*s)).sum()
 }
 
 // W, the cells of one part of work memory; 0 for a record of more than 32 strings.
 pub fn part_cells(i: Instrument) -> usize
     ensures { (result ≡ counted_part i) × (result ≤ 132384) }
 {
-    let strings = i.strings;
-    let s = i.string_count;
-    if 32 < s {
+    if i.string_count > 32 {
         return 0;
     }
-    let mut w = 0usize;
-    for j in 0..s {
-        let string = strings[j];
-        w += string_cells(string);
-    }
-    w
+    cells_of(&i.strings[..i.string_count])
 }
 
 // The cells that work memory must have: five parts.

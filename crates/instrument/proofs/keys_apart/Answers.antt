@@ -1,15 +1,25 @@
--- The invariant: `all` says whether the number of each key before i differs from those before it. Start, turn and end are counting's laws of Tested.
-use Rattle.instrument.specs.Valid.{keys_apart}
+-- One turn looks at the last of the keys that are left (proofs/Lists.antt).
+use mathlib.Core.Path.{sym, ap, ◌∙◌}
 use native.Mathlib.Omega.{arith}
-use Rattle.counting.specs.Laws.{tested_none, tested_next, tested_all}
+use Rattle.instrument.specs.Valid.{keys_apart}
+use Rattle.instrument.proofs.Lists.{before_first, apart_not, apart_next, apart_none}
 use Rattle.instrument.proofs.keys_apart.Goals as goal
 
-pub loop-i-init : goal.loop-i-init
-loop-i-init c = tested_none
+pub returns-then-not-is_new : goal.returns-then-not-is_new
+returns-then-not-is_new c =
+    let v = c.loop-last.invariant in
+    let s = c.in-Some.ensures.cases in
+    let e = apart_not _ _ _ _ v.0 v.1 s.0 s.1 (sym c.is_new.ensures ∙ c.if-not-is_new.true) in
+    sym (v.2 ∙ e)
 
-pub loop-i-preserved : goal.loop-i-preserved
-loop-i-preserved c = tested_next c.loop-i.invariant (omega arith) c.is_new_key-all.ensures
+pub loop-last-preserved : goal.loop-last-preserved
+loop-last-preserved c =
+    let v = c.loop-last.invariant in
+    let s = c.in-Some.ensures.cases in
+    let e = apart_next _ _ _ _ v.0 v.1 s.0 s.1 (sym c.is_new.ensures ∙ c.if-not-is_new.false) in
+    (omega arith, before_first _ _ _ _ v.0 v.1 s.0 s.1, v.2 ∙ e)
 
 pub returns : goal.returns
-unfolding keys_apart
-returns c = tested_all c.loop-i.invariant c.loop-i-test.false
+returns c =
+    let v = c.loop-last.invariant in
+    sym (v.2 ∙ ap (keys_apart _) c.in_default.ensures.cases ∙ apart_none _)

@@ -1,11 +1,13 @@
--- The invariant: `all` says whether the number of each key before i differs from those before it. Start, turn and end are counting's laws of Tested.
-use Rattle.instrument.specs.Valid.{new_key}
-use Prim.Native.Nat.{◌-◌}
-use Rattle.counting.specs.Laws.{Tested}
+-- The invariant: `rest` is the first keys, and whether those are apart decides for all.
+use Rattle.std.proofs.Common.{◌≡◌, length, take, ◌≤◌}
+use Rattle.instrument.specs.Valid.{keys_apart}
 use Rattle.instrument.proofs.keys_apart.Given as goal
 
-abbrev pub invariant-loop-i : goal.invariant-loop-i
-invariant-loop-i l = Tested l.n (new_key l.keys) l.all l.i
+abbrev pub invariant-loop-last : goal.invariant-loop-last
+invariant-loop-last l =
+    (length l.rest ≤ length l.fn.keys)
+    × (l.rest ≡ take (length l.rest) l.fn.keys)
+    × (keys_apart l.fn.keys (length l.fn.keys) ≡ keys_apart l.fn.keys (length l.rest))
 
-abbrev pub decreases-loop-i : goal.decreases-loop-i
-decreases-loop-i l = l.n - l.i
+abbrev pub decreases-loop-last : goal.decreases-loop-last
+decreases-loop-last l = length l.rest
