@@ -64,7 +64,12 @@ fn count_line(tally: &mut Tally, line: &[u8]) {
 
 fn report(rt: &impl Print, tally: &Tally) -> io::Result<()> {
     for (kind, count) in KINDS.iter().zip(&tally.counts) {
-        println!(rt; "{} {} answers, {} differ", kind.name(), count.answers, count.differ)?;
+        println!(rt;
+            "{} {} answers, {} differ",
+            kind.name(),
+            count.answers,
+            count.differ
+        )?;
     }
     println!(rt; "{} lines unreadable", tally.unreadable)
 }
