@@ -1,227 +1,192 @@
 // The pairs KEY WEIGHT of the command line. They are as many as the system takes, so no table holds them: each pass reads their words anew.
 use instrument::Instrument;
-use little_endian::part;
-use program::arguments::{Arguments, word};
-use program::message::complain_of_word;
-use program::streams;
-use program::system::System;
-use std::num::wrapping_add_usize;
-use text::lines::row;
-use text::{Number, Real, put, put_counted};
+use program::arguments::{Arguments, Failure};
+use program::system::{Program, System};
+use refusal::Refusal;
+use std::fmt::InlineText;
+use std::{mem, str};
 
-// What is wrong with a pair, in the order of the rows that say it.
+// What is wrong with a pair.
 #[derive(Clone, Copy)]
 enum Flaw {
     NoKey,
     NoWeight,
     Twice,
     Absent,
-    None,
+}
+
+impl Flaw {
+    // The word that it is wrong with.
+    fn place(self, i: usize) -> usize {
+        match self {
+            Flaw::NoWeight => weight_place(i),
+            _ => key_place(i),
+        }
+    }
+
+    // What that word stands for.
+    fn name(self) -> &'static str {
+        match self {
+            Flaw::NoWeight => "WEIGHT",
+            _ => "KEY",
+        }
+    }
+
+    fn words(self) -> &'static str {
+        match self {
+            Flaw::NoKey => "a key is a whole number from 0 to 255",
+            Flaw::NoWeight => {
+                "a weight is a decimal of at most 15 digits, or 0x and 16 hexadecimal digits"
+            }
+            Flaw::Twice => "the key is named twice",
+            Flaw::Absent => "the instrument has no such key",
+        }
+    }
 }
 
 #[derive(Clone, Copy)]
 struct Pair {
     key: u8,
     weight: f64,
-    flaw: Flaw,
 }
 
 // ---- the words
 
 // The pairs stand behind the two files.
 fn pair_count(given: Arguments) -> usize {
-    if given.count < 2 {
-        return 0;
-    }
-    (given.count - 2) / 2
+    given.count.saturating_sub(2) / 2
 }
 
-fn key_place(given: Arguments, i: usize) -> usize {
-    let pairs = wrapping_add_usize(given.first, 2);
-    wrapping_add_usize(pairs, wrapping_add_usize(i, i))
+fn key_place(i: usize) -> usize {
+    i.saturating_mul(2).saturating_add(2)
 }
 
-fn weight_place(given: Arguments, i: usize) -> usize {
-    wrapping_add_usize(key_place(given, i), 1)
+fn weight_place(i: usize) -> usize {
+    key_place(i).saturating_add(1)
 }
 
-fn with_flaw(flaw: Flaw) -> Pair {
-    Pair {
-        key: 0,
-        weight: 0.0,
-        flaw,
-    }
-}
-
-fn with_weight(key: u8, weight: Real) -> Pair {
-    match weight {
-        Real::Value(weight) => Pair {
-            key,
-            weight,
-            flaw: Flaw::None,
-        },
-        Real::None => with_flaw(Flaw::NoWeight),
-    }
-}
-
-fn with_key(key: u64, weight: Real) -> Pair {
-    if 255 < key {
-        return with_flaw(Flaw::NoKey);
-    }
-    with_weight(key as u8, weight)
+fn key_of(word: &[u8]) -> Option<u8> {
+    u8::try_from(text::number_of(word).ok()?).ok()
 }
 
 // A word that is too long for the bytes counts as an empty one.
-fn pair_at(rt: &impl System, given: Arguments, i: usize) -> Pair {
+fn pair_at(rt: &impl System, given: Arguments, i: usize) -> Result<Pair, Flaw> {
     let mut bytes = [0u8; 4096];
-    let n = word(rt, key_place(given, i), &mut bytes);
-    let key = text::number_of(part(&bytes, 0, n));
-    let m = word(rt, weight_place(given, i), &mut bytes);
-    let weight = text::real_of(part(&bytes, 0, m));
-    match key {
-        Number::Value(k) => with_key(k, weight),
-        _ => with_flaw(Flaw::NoKey),
-    }
+    let key = key_of(given.word(rt, key_place(i), &mut bytes)).ok_or(Flaw::NoKey)?;
+    let weight = text::real_of(given.word(rt, weight_place(i), &mut bytes)).ok_or(Flaw::NoWeight)?;
+    Ok(Pair { key, weight })
 }
 
 // ---- what is wrong with them
 
-fn row_of(flaw: Flaw) -> u64 {
-    match flaw {
-        Flaw::NoKey => 0,
-        Flaw::NoWeight => 1,
-        Flaw::Twice => 2,
-        Flaw::Absent => 3,
-        Flaw::None => 4,
-    }
-}
-
-fn is_none(flaw: Flaw) -> bool {
-    row_of(flaw) == 4
-}
-
 // By the word that it is wrong with.
-fn complain_of_pair(rt: &impl System, given: Arguments, i: usize, flaw: Flaw) {
-    let place = match flaw {
-        Flaw::NoWeight => weight_place(given, i),
-        _ => key_place(given, i),
-    };
+fn complain_of_pair(
+    program: &Program<'_, impl System>,
+    given: Arguments,
+    i: usize,
+    flaw: Flaw,
+) -> Failure {
     let mut bytes = [0u8; 4096];
-    let n = word(rt, place, &mut bytes);
-    complain_of_word(
-        rt,
-        b"adjust",
-        part(&bytes, 0, n),
-        row(b"KEY\nWEIGHT\nKEY\nKEY\n", row_of(flaw)),
-        row(
-            b"\
-                a key is a whole number from 0 to 255\n\
-                a weight is a decimal of at most 15 digits, or 0x and 16 hexadecimal digits\n\
-                the key is named twice\n\
-                the instrument has no such key\n",
-            row_of(flaw),
-        ),
-    );
+    let word = given.word(program.rt, flaw.place(i), &mut bytes);
+    program.complain_of_word(word, flaw.name(), flaw.words())
 }
 
 // The pair's own flaw, or that its key is named already.
-fn flaw_of(pair: Pair, named: &mut [bool; 256]) -> Flaw {
-    let flaw = pair.flaw;
-    if !is_none(flaw) {
-        return flaw;
+fn claim(pair: Result<Pair, Flaw>, named: &mut [bool; 256]) -> Result<(), Flaw> {
+    let key = usize::from(pair?.key);
+    if mem::replace(&mut named[key], true) {
+        Err(Flaw::Twice)
+    } else {
+        Ok(())
     }
-    let key = pair.key as usize;
-    if named[key] {
-        return Flaw::Twice;
-    }
-    named[key] = true;
-    Flaw::None
 }
 
-// Whether each pair is a key and a weight, and no key comes twice; else the first word that is wrong is named.
-pub fn are_sound(rt: &impl System, given: Arguments) -> bool {
+// Each pair must be a key and a weight, and no key may come twice; else the first word that is wrong is named.
+pub fn check_words(program: &Program<'_, impl System>, given: Arguments) -> Result<(), Failure> {
     let mut named = [false; 256];
     for i in 0..pair_count(given) {
-        let flaw = flaw_of(pair_at(rt, given, i), &mut named);
-        if !is_none(flaw) {
-            complain_of_pair(rt, given, i, flaw);
-            return false;
+        if let Err(flaw) = claim(pair_at(program.rt, given, i), &mut named) {
+            return Err(complain_of_pair(program, given, i, flaw));
         }
     }
-    true
+    Ok(())
 }
 
-// Whether the instrument has all of the keys; else the first that it has not is named.
-pub fn are_there(rt: &impl System, given: Arguments, instrument: Instrument) -> bool {
+fn check_key(pair: Result<Pair, Flaw>, instrument: Instrument) -> Result<(), Flaw> {
+    if weights::has_key(instrument, pair?.key) {
+        Ok(())
+    } else {
+        Err(Flaw::Absent)
+    }
+}
+
+// The instrument must have all of the keys; else the first that it has not is named.
+pub fn check_keys(
+    program: &Program<'_, impl System>,
+    given: Arguments,
+    instrument: Instrument,
+) -> Result<(), Failure> {
     for i in 0..pair_count(given) {
-        let pair = pair_at(rt, given, i);
-        if !weights::has_key(instrument, pair.key) {
-            complain_of_pair(rt, given, i, Flaw::Absent);
-            return false;
+        if let Err(flaw) = check_key(pair_at(program.rt, given, i), instrument) {
+            return Err(complain_of_pair(program, given, i, flaw));
         }
     }
-    true
+    Ok(())
 }
 
 // ---- what they do
 
-fn with_pair(instrument: Instrument, pair: Pair) -> Instrument {
-    weights::set_weight(instrument, pair.key, pair.weight)
+// The instrument with the weight of pair i, if it is one.
+fn with_pair(rt: &impl System, given: Arguments, instrument: Instrument, i: usize) -> Instrument {
+    match pair_at(rt, given, i) {
+        Ok(pair) => weights::set_weight(instrument, pair.key, pair.weight),
+        Err(_) => instrument,
+    }
 }
 
 // The instrument with all of the weights.
 pub fn with_pairs(rt: &impl System, given: Arguments, instrument: Instrument) -> Instrument {
-    let mut next = instrument;
-    for i in 0..pair_count(given) {
-        let more = with_pair(next, pair_at(rt, given, i));
-        next = more;
-    }
-    next
+    (0..pair_count(given)).fold(instrument, |next, i| with_pair(rt, given, next, i))
 }
 
-// The first pair that alone makes the record wrong, or how many pairs there are.
-fn first_refused(rt: &impl System, given: Arguments, instrument: Instrument) -> usize {
-    let pairs = pair_count(given);
-    for i in 0..pairs {
-        if !instrument::is_valid(with_pair(instrument, pair_at(rt, given, i))) {
-            return i;
-        }
-    }
-    pairs
+// The first pair that alone makes the record wrong.
+fn first_refused(rt: &impl System, given: Arguments, instrument: Instrument) -> Option<usize> {
+    (0..pair_count(given)).find(|&i| !instrument::is_valid(with_pair(rt, given, instrument, i)))
 }
 
 // `refused NUMBER: ..`, with the weight and the key of pair i. A word that is a weight has at most 18 bytes.
-fn put_weight_refusal(
-    rt: &impl System,
-    line: &mut [u8],
+fn refuse_weight(
+    program: &Program<'_, impl System>,
     given: Arguments,
+    path: &str,
     i: usize,
-    refusal: u32,
-) -> usize {
-    let pair = pair_at(rt, given, i);
+    refusal: Refusal,
+) {
+    let Ok(pair) = pair_at(program.rt, given, i) else {
+        return;
+    };
     let mut bytes = [0u8; 4096];
-    let n = word(rt, weight_place(given, i), &mut bytes);
-    let a = put_counted(line, 0, b"refused ", refusal as u64);
-    let b = put(line, a, b": the weight ");
-    let c = put(line, b, part(&bytes, 0, n));
-    let d = put_counted(line, c, b" of key ", pair.key as u64);
-    put(line, d, b" is not from 0 to 100")
+    let word = given.word(program.rt, weight_place(i), &mut bytes);
+    let weight = str::from_utf8(word).unwrap_or("");
+    let number = refusal.number();
+    let key = pair.key;
+    let line = InlineText::<128>::of(format_args!("refused {number}: the weight {weight} of key {key} is not from 0 to 100"));
+    let _ = program.answer_of(path, line.as_str());
 }
 
 // The writer's refusal, and which weight it is due to: the record test itself tells, asked with each pair alone.
 pub fn refuse(
-    rt: &impl System,
+    program: &Program<'_, impl System>,
     given: Arguments,
     instrument: Instrument,
-    path: &[u8],
-    refusal: u32,
-) {
-    let i = first_refused(rt, given, instrument);
-    if i == pair_count(given) {
-        instrument_input::answer_refusal(rt, b"adjust", path, refusal);
-        return;
+    path: &str,
+    refusal: Refusal,
+) -> Failure {
+    match first_refused(program.rt, given, instrument) {
+        Some(i) => {
+            refuse_weight(program, given, path, i, refusal);
+            Failure::Refused
+        }
+        None => instrument_input::answer_refusal(program, path, refusal),
     }
-    let mut line = [0u8; 128];
-    let n = put_weight_refusal(rt, &mut line, given, i, refusal);
-    streams::write_answer(rt, b"adjust", path, &mut line, n);
 }

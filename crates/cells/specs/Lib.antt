@@ -7,3 +7,4 @@ pub mod Fold
 pub mod Each
 pub mod Numbered
 pub mod Together
+pub mod Made

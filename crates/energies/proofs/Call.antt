@@ -8,6 +8,9 @@ use lib.ListN.{length, take, get_or, replicate}
 use lib.Seq.{length-take-le}
 use lib.Ieee.{Float, nan}
 use Rattle.float.specs.Float.{zero as +0}
+use Rattle.std.specs.Prelude.{Ok, Err}
+use Rattle.refusal.specs.declared.Refusal.{Refusal}
+use Rattle.refusal.specs.Refusal.{number_of, numbered, numbered_number, number_not_zero}
 use Rattle.counting.specs.Below.{pad, tabulate}
 use Rattle.counting.specs.Laws.{tabulate_cong}
 use Rattle.instrument.specs.declared.Instrument.{Instrument}
@@ -50,21 +53,24 @@ module _ (i : Instrument) (h : valid i ≡ true) (lengths : List ℕ) (coefficie
       λ k q. ap (λ (e : Float). record { key = (key_at i.keys k).key; energy = e }) (ap (λ (l : List Float). get_or l k nan) d ∙ key_sum k (strings_of i) cells (omega (arith, (few i h).0))) in
       ap (λ (l : List KeyEnergy). record { keys = l; count = i.key_count }) (ep ∙ ap (pad 16 no_energy) (tabulate_cong i.key_count (pair_of i sums) pair each))
 
-module _ (i : Instrument) (s : Session) (work : List Float) (n : ℕ) (e : n ≡ record_refusal i s (length work)) where
-  pub energies_refused : (n ≡ 0 → ⊥) → (r : EnergiesAnswer) → r ≡ no_energies_for n → EnergiesMeet i s work r
-  energies_refused h r er = record { refuses = λ x. er ∙ ap no_energies_for e; accepts = λ z. absurd (h (e ∙ z)) }
+module _ (i : Instrument) (s : Session) (work : List Float) where
+  pub energies_refused : (e : Refusal) → number_of e ≡ record_refusal i s (length work) → EnergiesMeet i s work (Err e)
+  energies_refused e n = record {
+    refuses = λ x. ap Err (sym (numbered_number e) ∙ ap numbered n);
+    accepts = λ z. absurd (number_not_zero e (n ∙ z));
+  }
 
-  module _ (z : n ≡ 0) where
+  module _ (z : 0 ≡ record_refusal i s (length work)) where
     pub fine : Passed i s (length work)
-    fine = passed i s (length work) (sym e ∙ z)
+    fine = passed i s (length work) (sym z)
 
     module _ (w : ℕ) (ew : w ≡ part_cells i) where
       -- the first part is there
       pub part_there : length (take w work) ≡ w
       part_there = length-take-le w work (omega (arith, fine.room))
 
-      pub energies_found : (r : Energies) → r ≡ energies_of i (take w work) → EnergiesMeet i s work (record { refusal = 0; energies = r })
+      pub energies_found : (r : Energies) → r ≡ energies_of i (take w work) → EnergiesMeet i s work (Ok r)
       energies_found r er = record {
-        refuses = λ x. absurd (x (sym e ∙ z));
-        accepts = λ x. ap (λ (y : Energies). record { refusal = 0; energies = y }) (er ∙ ap (λ (k : ℕ). energies_of i (take k work)) ew);
+        refuses = λ x. absurd (x (sym z));
+        accepts = λ x. ap Ok (er ∙ ap (λ (k : ℕ). energies_of i (take k work)) ew);
       }

@@ -10,6 +10,7 @@ use lib.ListN.{length, take, drop, get_or, set, replicate, length-set, length-re
 use lib.Seq.{drop-cons, get_or-set_same, get_or-set_other}
 use borrow.Author.Tests.{eqb-true, eqb-false}
 use lib.Ieee.{Float, nan, binary64, add}
+use Rattle.std.specs.List.{fold}
 use Rattle.float.specs.Float.{zero as +0}
 use Rattle.cells.specs.Splice.{splice_same}
 use Rattle.cells.specs.Fold.{fold_parts}
@@ -25,25 +26,11 @@ use Rattle.energies.specs.Steps.{summed_into, sums_after}
 
 -- ---- a line
 
--- Cells below i are summed: what is left to add gives the line's energy.
-pub record Summed (l : List Float) (sum : Float) (i : ℕ) : Type 0 where
-  pub within : i ≤ length l
-  pub rest : sum_from sum (map square (drop i l)) ≡ line_energy l
-
-pub summed_start : (l : List Float) → Summed l +0 0
-summed_start l = record { within = omega arith; rest = refl }
-
-pub summed_turn : (l : List Float) (sum : Float) (i : ℕ) → Summed l sum i → i < length l → Summed l (add binary64 sum (square (get_or l i nan))) (i + 1)
+-- squares added one by one are their sum
+pub squares_added : (a : Float) (l : List Float) → fold (λ s v. add binary64 s (square v)) a l ≡ sum_from a (map square l)
 unfolding sum_from
-summed_turn l sum i s h = record {
-  within = omega arith;
-  rest = ap (λ (k : ℕ). sum_from (add binary64 sum (square (get_or l i nan))) (map square (drop k l))) (add-one i)
-      ∙ sym (ap (λ (r : List Float). sum_from sum (map square r)) (drop-cons l i nan h)) ∙ s.rest;
-}
-
-pub summed_end : (l : List Float) (sum : Float) (i : ℕ) → Summed l sum i → length l ≤ i → sum ≡ line_energy l
-unfolding sum_from
-summed_end l sum i s h = sym (ap (λ (r : List Float). sum_from sum (map square r)) (drop_of_length-le l h)) ∙ s.rest
+squares_added a [] = refl
+squares_added a (v ∷ l) = squares_added (add binary64 a (square v)) l
 
 -- ---- the strings
 

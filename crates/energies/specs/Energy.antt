@@ -1,12 +1,14 @@
 -- Document 01, "The session": "`key_energies` as in the Rust, one pair a key in file order, returned by value with zeros past the last key", after refusals 7 and 8. The Rust sums `v * v` over
 -- the cells of a line, that over the lines a_r, a_l, b_r, b_l, c_r, c_l of a string, that over a key's strings; sums start at +0. Definitions only: assumes nothing.
-use Rattle.std.specs.Prelude.{◌≡◌, Bool, cond, List, [], ◌∷◌, ◌++◌, map, ℕ, eqb, length, take, drop, replicate, Float}
+use Rattle.std.specs.Prelude.{◌≡◌, Bool, cond, List, [], ◌∷◌, ◌++◌, map, ℕ, eqb, length, take, drop, Result, Ok, Err, Float}
 use Rattle.std.specs.Float.{binary64}
 use Rattle.std.specs.Float.Ieee.{add, mul}
 use Rattle.float.specs.Float.{zero as +0}
 use Rattle.cells.specs.Splice.{part}
 use Rattle.counting.specs.Meets.{Meets}
 use Rattle.counting.specs.Below.{pad, tabulate}
+use Rattle.refusal.specs.declared.Refusal.{Refusal}
+use Rattle.refusal.specs.Refusal.{numbered}
 use Rattle.instrument.specs.declared.Instrument.{Instrument}
 use Rattle.instrument.specs.Valid.{key_at}
 use Rattle.instrument.specs.Work.{part_cells}
@@ -17,7 +19,6 @@ use Rattle.session_record.specs.declared.Session.{Session}
 use Rattle.session_record.specs.Record.{record_refusal}
 use Rattle.energies.specs.declared.KeyEnergy.{KeyEnergy}
 use Rattle.energies.specs.declared.Energies.{Energies}
-use Rattle.energies.specs.declared.EnergiesAnswer.{EnergiesAnswer}
 
 -- numbers added one after the other
 unfoldable pub sum_from : Float → List Float → Float
@@ -65,11 +66,11 @@ energies_of i cells = record {
   count = i.key_count;
 }
 
--- "A refusal returns its number alone": with zeros
-abbrev pub no_energies_for : ℕ → EnergiesAnswer
-no_energies_for n = record { refusal = n; energies = record { keys = replicate 16 no_energy; count = 0 } }
+-- "A refusal returns its number alone"
+abbrev pub no_energies_for : ℕ → Result Energies Refusal
+no_energies_for n = Err (numbered n)
 
 -- what `key_energies` promises: "energies 7 and 8", else the energies of "the piano now", which is work memory's first part and all that counts
-abbrev pub EnergiesMeet : Instrument → Session → List Float → EnergiesAnswer → Type 0
+abbrev pub EnergiesMeet : Instrument → Session → List Float → Result Energies Refusal → Type 0
 EnergiesMeet i s work r =
-    Meets (record_refusal i s (length work)) (λ n. r ≡ no_energies_for n) (r ≡ record { refusal = 0; energies = energies_of i (take (part_cells i) work) })
+    Meets (record_refusal i s (length work)) (λ n. r ≡ no_energies_for n) (r ≡ Ok (energies_of i (take (part_cells i) work)))

@@ -10,10 +10,11 @@ ghost use Rattle.instrument.specs.Work.{part_cells};
 ghost use Rattle.string.specs.String.{Strung};
 ghost use Rattle.string.specs.Table.{table_strings};
 ghost use Rattle.strings.specs.Strings.{AllFit, cells_of};
-ghost use Rattle.energies.specs.Energy.{line_energy, string_energy, no_energy, energies_of, no_energies_for, EnergiesMeet};
+ghost use Rattle.energies.specs.Energy.{line_energy, string_energy, no_energy, energies_of, EnergiesMeet};
 ghost use Rattle.energies.specs.Steps.{sums_after, pair_of};
 
 use instrument::Instrument;
+use refusal::Refusal;
 use session_record::Session;
 use string::StringDesign;
 
@@ -31,22 +32,15 @@ pub struct Energies {
     pub count: usize,
 }
 
-// The refusal's number and zeros, or 0 and the energies.
-#[derive(Clone, Copy)]
-pub struct EnergiesAnswer {
-    pub refusal: u64,
-    pub energies: Energies,
-}
+const NO_ENERGY: KeyEnergy = KeyEnergy {
+    key: 0,
+    energy: 0.0,
+};
 
 fn line_energy(line: &[f64]) -> f64
     ensures { result ≡ line_energy line.now }
 {
-    let mut sum = 0.0;
-    for i in 0..line.len() {
-        let v = line[i];
-        sum = sum + v * v;
-    }
-    sum
+    line.iter().fold(0.0, |sum, &v| sum + v * v)
 }
 
 // The line of len cells from cell a of a string's part on.
@@ -67,10 +61,10 @@ fn string_energy(cells: &[f64], d: StringDesign) -> f64
     let c_r = string::at_c_r(d);
     let c_l = string::at_c_l(d);
     let mut sum = 0.0 + energy_at(cells, 0, d.na);
-    sum = sum + energy_at(cells, d.na, d.na);
-    sum = sum + energy_at(cells, b_r, d.nb);
-    sum = sum + energy_at(cells, b_l, d.nb);
-    sum = sum + energy_at(cells, c_r, d.nc);
+    sum += energy_at(cells, d.na, d.na);
+    sum += energy_at(cells, b_r, d.nb);
+    sum += energy_at(cells, b_l, d.nb);
+    sum += energy_at(cells, c_r, d.nc);
     sum + energy_at(cells, c_l, d.nc)
 }
 
@@ -90,18 +84,8 @@ fn sum_strings(
     for i in 0..n {
         let d = string::design_at(lengths, coefficients, i);
         let e = at + string::size(d);
-        let k = d.key;
-        sums[k] = sums[k] + string_energy(&cells[at..e], d);
+        sums[d.key] += string_energy(&cells[at..e], d);
         at = e;
-    }
-}
-
-fn no_energy() -> KeyEnergy
-    ensures { result ≡ no_energy }
-{
-    KeyEnergy {
-        key: 0,
-        energy: 0.0,
     }
 }
 
@@ -110,12 +94,10 @@ fn pairs_of(instrument: Instrument, sums: &[f64; 16]) -> [KeyEnergy; 16]
     requires { instrument.key_count ≤ 16 }
     ensures { result ≡ pad 16 no_energy (tabulate instrument.key_count (pair_of instrument sums.now)) }
 {
-    let none = no_energy();
-    let mut pairs = [none; 16];
-    for k in 0..instrument.key_count {
-        let design = instrument.keys[k];
+    let mut pairs = [NO_ENERGY; 16];
+    for (k, key) in instrument.keys[..instrument.key_count].iter().enumerate() {
         pairs[k] = KeyEnergy {
-            key: design.key,
+            key: key.key,
             energy: sums[k],
         };
     }
@@ -128,49 +110,29 @@ pub fn part_energies(instrument: Instrument, cells: &[f64]) -> Energies
     ensures { result ≡ energies_of instrument cells.now }
 {
     let tables = sample_constants::string_tables(instrument);
-    let lengths = tables.lengths;
-    let coefficients = tables.coefficients;
     let mut sums = [0.0; 16];
     sum_strings(
         cells,
         &mut sums,
-        &lengths,
-        &coefficients,
+        &tables.lengths,
+        &tables.coefficients,
         instrument.string_count,
     );
-    let keys = pairs_of(instrument, &sums);
     Energies {
-        keys,
+        keys: pairs_of(instrument, &sums),
         count: instrument.key_count,
     }
 }
 
-fn refused(number: u64) -> EnergiesAnswer
-    ensures { result ≡ no_energies_for number }
-{
-    let none = no_energy();
-    let energies = Energies {
-        keys: [none; 16],
-        count: 0,
-    };
-    EnergiesAnswer {
-        refusal: number,
-        energies,
-    }
-}
-
 // Each key's energy now: of the first part of work memory, and of nothing else there.
-pub fn key_energies(instrument: Instrument, session: Session, work: &[f64]) -> EnergiesAnswer
+pub fn key_energies(
+    instrument: Instrument,
+    session: Session,
+    work: &[f64],
+) -> Result<Energies, Refusal>
     ensures { EnergiesMeet instrument session work.now result }
 {
-    let refusal = session_record::record_refusal(instrument, session, work.len());
-    if refusal != 0 {
-        return refused(refusal);
-    }
+    session_record::record_refusal(instrument, session, work.len())?;
     let w = session_record::part_size(instrument);
-    let energies = part_energies(instrument, &work[..w]);
-    EnergiesAnswer {
-        refusal: 0,
-        energies,
-    }
+    Ok(part_energies(instrument, &work[..w]))
 }

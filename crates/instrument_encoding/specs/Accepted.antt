@@ -1,5 +1,5 @@
 -- Every accepted file gives an instrument that passes refusal 7's test. Assumes nothing.
-use Rattle.std.specs.Prelude.{◌≡◌, Bool, false, not, cond, List, ℕ, suc, ◌-◌, ◌≤◌, ◌<◌, ltb, length}
+use Rattle.std.specs.Prelude.{◌≡◌, Bool, false, not, cond, List, ℕ, suc, ◌-◌, ◌≤◌, ◌<◌, ltb, length, Result}
 use Rattle.std.proofs.Math.Path.{refl, ap}
 use Rattle.std.proofs.Common.{sym, ◌∙◌, subst, le_refl, arith}
 use Rattle.std.proofs.Math.Bool.{true}
@@ -13,23 +13,24 @@ use Rattle.instrument_fields.specs.Fields.{common_of}
 use Rattle.instrument_fields.specs.Ranges.{common_in_range, string_in_range}
 use Rattle.instrument_fields.specs.Unused.{no_key, no_string, is_plus_zero, is_no_key, is_no_string}
 use Rattle.instrument.specs.declared.Instrument.{Instrument}
-use Rattle.instrument_file.specs.declared.ReadAnswer.{ReadAnswer}
+use Rattle.refusal.specs.declared.Refusal.{Refusal}
+use Rattle.refusal.specs.Refusal.{numbered, number_in, number_not_zero}
 use Rattle.counting.specs.Below.{pad}
 use Rattle.counting.specs.Laws.{all_at, all_build, get_d_tabulate, all_gather, pad_first}
-use Rattle.instrument_file.specs.File.{section, key_section, headed, chained, measured, fielded, fielded_key, loop_in, keys_in, strings_in, instrument_of, refused, accepted, read_of}
+use Rattle.instrument_file.specs.File.{section, key_section, headed, chained, measured, fielded, fielded_key, loop_in, keys_in, strings_in, instrument_of, refused, accepted, instrument_in, read_of}
 use Rattle.instrument_file.specs.FileLaws.{sections_low, sections_high, count_in, run_in, length_run, strings_length, keys_length, sum_in, fielded_key_lem, keys_in_range_lem}
 use Rattle.instrument.specs.Valid.{string_at, past_key, past_string, string_sum, keys_apart, keys_unused, strings_in_range, strings_unused, counted, keys_valid, strings_valid, valid}
 use Rattle.instrument_encoding.specs.Parts.{pad_rest}
 
 -- ---- what acceptance says
 
-pass : (t : Bool) (k : ℕ) (x : ReadAnswer) (i : Instrument) → cond (not t) (refused (suc k)) x ≡ accepted i → (t ≡ true) × (x ≡ accepted i)
+pass : (t : Bool) (k : ℕ) (x : Result Instrument Refusal) (i : Instrument) → cond (not t) (refused (suc k)) x ≡ accepted i → (t ≡ true) × (x ≡ accepted i)
 pass true k x i h = (refl, h)
-pass false k x i h = let e : suc k ≡ 0 = ap (λ (r : ReadAnswer). r.refusal) h in absurd (omega arith)
+pass false k x i h = absurd (number_not_zero (numbered (suc k)) (ap number_in h))
 
-pass_not : (t : Bool) (k : ℕ) (x : ReadAnswer) (i : Instrument) → cond t (refused (suc k)) x ≡ accepted i → (t ≡ false) × (x ≡ accepted i)
+pass_not : (t : Bool) (k : ℕ) (x : Result Instrument Refusal) (i : Instrument) → cond t (refused (suc k)) x ≡ accepted i → (t ≡ false) × (x ≡ accepted i)
 pass_not false k x i h = (refl, h)
-pass_not true k x i h = let e : suc k ≡ 0 = ap (λ (r : ReadAnswer). r.refusal) h in absurd (omega arith)
+pass_not true k x i h = absurd (number_not_zero (numbered (suc k)) (ap number_in h))
 
 pub record Accepts (f : List ℕ) (n : ℕ) (i : Instrument) : Type 0 where
   pub headed : headed f ≡ true
@@ -63,7 +64,7 @@ accepts f i h =
       fielded = a4.0;
       few = ltb-false 32 m a5.0;
       apart = a6.0;
-      gives = ap (λ (r : ReadAnswer). r.instrument) a6.1;
+      gives = ap instrument_in a6.1;
     }
 
 -- ---- the parts of the test

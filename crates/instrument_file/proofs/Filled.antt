@@ -3,61 +3,57 @@ use mathlib.Core.Path.{◌≡◌, refl, sym, ap, ◌∙◌, subst}
 use mathlib.Core.List.{List, [], ◌∷◌, ◌++◌}
 use Prim.Native.Nat.{ℕ, ◌+◌, ◌≤◌, ◌<◌}
 use native.Mathlib.Omega.{arith}
-use lib.ListN.{length, replicate, set}
-use lib.Seq.{sets}
+use lib.ListN.{length, replicate, set, take, drop, length-set}
+use native.Mathlib.Numerals.{add-one}
+use lib.Seq.{take-suc-set, take_all}
+use Rattle.std.proofs.lemmas.List.{drop-replicate, drop-drop}
+use Rattle.std.proofs.Common.{append_assoc}
+use lib.Seq.{sets, sets-eq}
+use borrow.Rule.Slice.PartMut.{put_mid}
 use Rattle.little_endian.specs.Numbers.{byte_at}
 use Rattle.instrument_fields.specs.declared.KeyDesign.{KeyDesign}
 use Rattle.instrument_fields.specs.declared.LoopDesign.{LoopDesign}
 use Rattle.instrument_fields.specs.Fields.{key_of}
 use Rattle.instrument_fields.specs.Unused.{no_key, no_string}
 use Rattle.counting.specs.Below.{tabulate, gather, pad}
-use Rattle.counting.specs.Laws.{tabulate_more, length_tabulate, gather_more, pad_set, pad_sets, sets_more}
+use Rattle.counting.specs.Laws.{tabulate_more, length_tabulate, gather_more, pad_sets}
 use Rattle.instrument.specs.Valid.{key_at, string_sum}
 use Rattle.instrument.specs.ValidLaws.{string_sum_none, string_sum_more, string_sum_within}
 use Rattle.instrument_file.specs.File.{key_section, loop_in, keys_in, strings_in}
 use Rattle.instrument_file.specs.FileLaws.{run_in, length_run, strings_length, count_in_lem, sum_in}
 
--- ---- the first i of n keys are in place, and zeros after them
+-- ---- a loop that stores g i at each place i
 
-pub record KeysFilled (f : List ℕ) (n : ℕ) (out : List KeyDesign) (i : ℕ) : Type 0 where
-  pub below : i ≤ n
-  pub keys : out ≡ pad 16 no_key (keys_in f i)
+pub record Stored {A : Type 0} (g : ℕ → A) (out₀ out : List A) (i : ℕ) : Type 0 where
+  pub within : i ≤ length out₀
+  pub same : length out ≡ length out₀
+  pub done : take i out ≡ tabulate i g
 
-module _ {f : List ℕ} {n : ℕ} where
-  pub keys_none : {k : KeyDesign} → k ≡ no_key → KeysFilled f n (replicate 16 k) 0
-  unfolding keys_in tabulate pad
-  keys_none e = record { below = omega arith; keys = ap (replicate 16) e }
-
-  pub keys_next : {out : List KeyDesign} {i : ℕ} {k : KeyDesign} → KeysFilled f n out i → i < n → n ≤ 16 → k ≡ key_of (key_section f i) → KeysFilled f n (set out i k) (i + 1)
-  unfolding keys_in
-  keys_next {i = i} s h few e =
-      let t : ℕ → KeyDesign = λ k. key_of (key_section f k) in
-      let l = length_tabulate i t in
-      let one = subst (λ (m : ℕ). set (pad 16 no_key (tabulate i t)) m (t i) ≡ pad 16 no_key (tabulate i t ++ (t i ∷ []))) l (pad_set 16 no_key (tabulate i t) (t i) (omega arith)) in
-      record { below = omega arith; keys = rw (s.keys, e) (one ∙ ap (pad 16 no_key) (sym (tabulate_more i t))) }
-
-  pub keys_all : {out : List KeyDesign} {i : ℕ} → KeysFilled f n out i → n ≤ i → out ≡ pad 16 no_key (keys_in f n)
-  keys_all {i = i} s h = let b = s.below in let e : i ≡ n = omega arith in rw e at s.keys
-
--- ---- the first j of s strings of a key's section b are stored from m on
-
-pub record RunStored (b : List ℕ) (s m : ℕ) (old out : List LoopDesign) (j : ℕ) : Type 0 where
-  pub below : j ≤ s
-  pub strings : out ≡ sets old m (tabulate j (loop_in b))
-
-module _ {b : List ℕ} {s m : ℕ} {old : List LoopDesign} where
-  pub run_none : RunStored b s m old old 0
+module _ {A : Type 0} {g : ℕ → A} {out₀ : List A} where
+  pub stored_start : Stored g out₀ out₀ 0
   unfolding tabulate
-  run_none = record { below = omega arith; strings = refl }
+  stored_start = record { within = omega arith; same = refl; done = refl }
 
-  pub run_next : {out : List LoopDesign} {j : ℕ} {v : LoopDesign} → RunStored b s m old out j → j < s → v ≡ loop_in b j → RunStored b s m old (set out (m + j) v) (j + 1)
-  run_next {j = j} r h e =
-      let t : ℕ → LoopDesign = loop_in b in
-      let stored = ap (λ (n : ℕ). set (sets old m (tabulate j t)) (m + n) (t j)) (length_tabulate j t) in
-      record { below = omega arith; strings = rw (r.strings, e) (sym (ap (sets old m) (tabulate_more j t) ∙ sets_more old (tabulate j t) m (t j) ∙ stored)) }
+  module _ {out : List A} {i : ℕ} (s : Stored g out₀ out i) where
+    pub stored_turn : {v : A} → i < length out₀ → v ≡ g i → Stored g out₀ (set out i v) (i + 1)
+    stored_turn {v} h e = record {
+      within = omega arith;
+      same = length-set out i v ∙ s.same;
+      done =
+          ap (λ (n : ℕ). take n (set out i v)) (add-one i) ∙ take-suc-set out i v (omega (arith, s.same))
+          ∙ rw (s.done, e) (sym (tabulate_more i g));
+    }
 
-  pub run_all : {out : List LoopDesign} {j : ℕ} → RunStored b s m old out j → s ≤ j → out ≡ sets old m (tabulate s (loop_in b))
-  run_all {j = j} r h = let l = r.below in let e : j ≡ s = omega arith in rw e at r.strings
+    pub stored_end : length out₀ ≤ i → out ≡ tabulate (length out₀) g
+    stored_end h =
+        let e : i ≡ length out₀ = omega (arith, s.within) in
+        sym (take_all i out (omega (arith, s.same))) ∙ s.done ∙ ap (λ (n : ℕ). tabulate n g) e
+
+-- places filled from the front, and zeros behind them
+pub front_filled : {A : Type 0} (g : ℕ → A) (z y : A) (N n m : ℕ) (xs : List A) → xs ≡ tabulate m g → m ≡ n → y ≡ z → xs ++ drop n (replicate N y) ≡ pad N z (tabulate n g)
+unfolding pad
+front_filled g z y N n m xs filled e same =
+    rw (filled, e, same, length_tabulate n g) (ap (λ (l : List _). tabulate n g ++ l) (drop-replicate n N z))
 
 -- ---- the strings of the first i of n keys are in place, m of them, and zeros after them
 
@@ -95,6 +91,17 @@ module _ {f : List ℕ} {n : ℕ} {keys : List KeyDesign} where
           count = let more = string_sum_more keys i in let e = s.count in omega arith;
           strings = er ∙ rw (s.strings, eb, runs, total) (placed ∙ ap (pad 32 no_string) (sym (gather_more i (run_in f))));
         }
+
+    -- the same, as the call on those places leaves them
+    pub strings_turn : {b : List ℕ} {new : List LoopDesign} {c k q : ℕ} → i < n → length out ≡ 32 → c ≡ (key_at keys i).strings → k ≡ c → q ≡ c
+        → b ≡ key_section f i → new ≡ tabulate q (loop_in b) → StringsFilled f n keys (put_mid m k out new) (m + c) (i + 1)
+    strings_turn {b} {new} {c} {k} {q} h size ec ek eq eb en =
+        let room = strings_room h in
+        let filled : new ≡ tabulate (key_at keys i).strings (loop_in b) = en ∙ ap (λ (x : ℕ). tabulate x (loop_in b)) (eq ∙ ec) in
+        let long : length new ≡ c = ap (λ (l : List LoopDesign). length l) en ∙ length_tabulate q (loop_in b) ∙ eq in
+        let put : put_mid m k out new ≡ sets out m new =
+        rw (ek, ← long) (ap (λ (l : List LoopDesign). take m out ++ (new ++ l)) (drop-drop (length new) m out) ∙ sym (append_assoc (take m out) new (drop (m + length new) out)) ∙ sym (sets-eq new out m (omega (arith, long, ec, room, size)))) in
+        rw ec (strings_next h eb (put ∙ ap (sets out m) filled))
 
     pub strings_all : n ≤ i → out ≡ pad 32 no_string (strings_in f n)
     strings_all h = let b = s.below in let e : i ≡ n = omega arith in rw e at s.strings

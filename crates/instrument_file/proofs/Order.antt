@@ -1,89 +1,70 @@
--- The refusals in their order: what has passed before each. Assumes nothing.
-use mathlib.Core.Path.{◌≡◌, refl}
+-- The refusals in their order, each by what the calls before it answered. Assumes nothing.
+use mathlib.Core.Path.{◌≡◌, refl, sym, ap, ◌∙◌}
 use mathlib.Core.Bool.{true, false}
 use mathlib.Core.List.{List}
 use Prim.Native.Nat.{ℕ, ◌-◌, ◌≤◌, ◌<◌}
+use native.Mathlib.Omega.{arith}
+use lib.ListN.{length, take}
 use borrow.Author.Tests.{lt-ltb, le-ltb}
+use Rattle.std.specs.Prelude.{Result, Ok, Err}
+use Rattle.std.specs.List.{sum_by}
+use Rattle.refusal.specs.declared.Refusal.TheVariants.{SectionCount, Chain, SectionLength, Field, ManyStrings, KeyTwice}
 use Rattle.counting.specs.Below.{pad}
+use Rattle.counting.specs.Laws.{pad_length}
 use Rattle.little_endian.specs.Numbers.{u32_at}
 use Rattle.instrument_fields.specs.declared.KeyDesign.{KeyDesign}
 use Rattle.instrument_fields.specs.Unused.{no_key}
-use Rattle.instrument.specs.Valid.{string_sum, keys_apart}
-use Rattle.instrument_file.specs.File.{headed, chained, measured, fielded, keys_in, instrument_of, refused, accepted, read_of}
-
-module _ (f : List ℕ) (n : ℕ) where
-  pub record Headed : Type 0 where
-    pub count : n ≡ u32_at f 0 - 1
-    pub headed : headed f ≡ true
-
-  pub record Chained : Type 0 where
-    pub before : Headed
-    pub chained : chained f n ≡ true
-
-  pub record Measured : Type 0 where
-    pub before : Chained
-    pub measured : measured f n ≡ true
-
-  pub record Fielded : Type 0 where
-    pub before : Measured
-    pub fielded : fielded f n ≡ true
-
-  pub record Summed (keys : List KeyDesign) (m : ℕ) : Type 0 where
-    pub before : Fielded
-    pub keys_are : keys ≡ pad 16 no_key (keys_in f n)
-    pub sum_is : m ≡ string_sum keys n
+use Rattle.instrument.specs.Valid.{keys_in_range, string_sum, keys_apart}
+use Rattle.instrument.proofs.Lists.{string_sum_first, string_sum_most, keys_apart_first}
+use Rattle.instrument_file.specs.File.{headed, chained, measured, fielded, keys_in, instrument_of, read_of}
+use Rattle.instrument_file.specs.FileLaws.{keys_length, keys_in_range_lem}
 
 module _ (f : List ℕ) where
-  pub refused_1 : headed f ≡ false → read_of f ≡ refused 1
+  pub refused_1 : headed f ≡ false → Err SectionCount ≡ read_of f
   unfolding read_of
   refused_1 h = rw h
 
-  module _ (n : ℕ) where
-    pub refused_2 : Headed f n → chained f n ≡ false → read_of f ≡ refused 2
+  module _ (n : ℕ) (count : n ≡ u32_at f 0 - 1) (h1 : headed f ≡ true) where
+    pub refused_2 : chained f n ≡ false → Err Chain ≡ read_of f
     unfolding read_of
-    refused_2 a h = rw (← a.count, a.headed, h)
+    refused_2 h = rw (← count, h1, h)
 
-    pub refused_3 : Chained f n → measured f n ≡ false → read_of f ≡ refused 3
-    unfolding read_of
-    refused_3 b h = let a = b.before in rw (← a.count, a.headed, b.chained, h)
+    module _ (h2 : chained f n ≡ true) where
+      pub refused_3 : measured f n ≡ false → Err SectionLength ≡ read_of f
+      unfolding read_of
+      refused_3 h = rw (← count, h1, h2, h)
 
-    pub refused_4 : Measured f n → fielded f n ≡ false → read_of f ≡ refused 4
-    unfolding read_of
-    refused_4 c h = let b = c.before in let a = b.before in rw (← a.count, a.headed, b.chained, c.measured, h)
+      module _ (h3 : measured f n ≡ true) where
+        pub refused_4 : fielded f n ≡ false → Err Field ≡ read_of f
+        unfolding read_of
+        refused_4 h = rw (← count, h1, h2, h3, h)
 
-    module _ (keys : List KeyDesign) (m : ℕ) (e : Summed f n keys m) where
-      abbrev d : Fielded f n
-      d = e.before
+        module _ (h4 : fielded f n ≡ true) (few : n ≤ 16) (keys : List KeyDesign) (is : keys ≡ pad 16 no_key (keys_in f n)) where
+          size : length keys ≡ 16
+          size = ap (λ (l : List KeyDesign). length l) is ∙ pad_length 16 no_key (keys_in f n) (omega (arith, keys_length f n))
 
-      abbrev c : Measured f n
-      c = d.before
+          -- the sum of the keys' strings does not wrap
+          pub sum_fits : sum_by (λ (k : KeyDesign). k.strings) (take n keys) ≤ 48
+          sum_fits =
+              string_sum_most keys n (omega (arith, size)) few
+              (ap (λ (l : List KeyDesign). keys_in_range l n) is ∙ keys_in_range_lem f n h4)
 
-      abbrev b : Chained f n
-      b = c.before
+          module _ (m : ℕ) (total : m ≡ sum_by (λ (k : KeyDesign). k.strings) (take n keys)) where
+            pub sum_is : m ≡ string_sum keys n
+            sum_is = total ∙ string_sum_first keys n (omega (arith, size))
 
-      abbrev a : Headed f n
-      a = b.before
+            pub refused_5 : 32 < m → Err ManyStrings ≡ read_of f
+            unfolding read_of instrument_of
+            refused_5 h = rw (← count, h1, h2, h3, h4, ← is, ← sum_is, lt-ltb 32 m h)
 
-      pub refused_5 : 32 < m → read_of f ≡ refused 5
-      unfolding read_of instrument_of
-      refused_5 h = rw (← a.count, a.headed, b.chained, c.measured, d.fielded, ← e.keys_are, ← e.sum_is, lt-ltb 32 m h)
+            module _ (within : m ≤ 32) where
+              apart_is : keys_apart (take n keys) (length (take n keys)) ≡ keys_apart keys n
+              apart_is = keys_apart_first keys n (omega (arith, size))
 
-      module _ (few : m ≤ 32) where
-        pub refused_6 : keys_apart keys n ≡ false → read_of f ≡ refused 6
-        unfolding read_of instrument_of
-        refused_6 h = rw (← a.count, a.headed, b.chained, c.measured, d.fielded, ← e.keys_are, ← e.sum_is, le-ltb 32 m few, h)
+              pub refused_6 : keys_apart (take n keys) (length (take n keys)) ≡ false → Err KeyTwice ≡ read_of f
+              unfolding read_of instrument_of
+              refused_6 h = rw (← count, h1, h2, h3, h4, ← is, ← sum_is, le-ltb 32 m within, sym apart_is ∙ h)
 
-        pub accepts : keys_apart keys n ≡ true → read_of f ≡ accepted (instrument_of f n)
-        unfolding read_of instrument_of
-        accepts h = rw (← a.count, a.headed, b.chained, c.measured, d.fielded, ← e.keys_are, ← e.sum_is, le-ltb 32 m few, h)
-
--- a file that passes the first four tests and has more than 32 strings, in the file's own words
-pub refused_over : (f : List ℕ) → headed f ≡ true → chained f (u32_at f 0 - 1) ≡ true → measured f (u32_at f 0 - 1) ≡ true → fielded f (u32_at f 0 - 1) ≡ true
-    → 32 < string_sum (pad 16 no_key (keys_in f (u32_at f 0 - 1))) (u32_at f 0 - 1) → read_of f ≡ refused 5
-refused_over f h1 h2 h3 h4 h5 =
-    let n = u32_at f 0 - 1 in
-    let a : Headed f n = record { count = refl; headed = h1 } in
-    let b : Chained f n = record { before = a; chained = h2 } in
-    let c : Measured f n = record { before = b; measured = h3 } in
-    let d : Fielded f n = record { before = c; fielded = h4 } in
-    refused_5 f n (pad 16 no_key (keys_in f n)) (string_sum (pad 16 no_key (keys_in f n)) n) (record { before = d; keys_are = refl; sum_is = refl }) h5
+              pub accepts : keys_apart (take n keys) (length (take n keys)) ≡ true → Ok (instrument_of f n) ≡ read_of f
+              unfolding read_of instrument_of
+              accepts h = rw (← count, h1, h2, h3, h4, ← is, ← sum_is, le-ltb 32 m within, sym apart_is ∙ h)

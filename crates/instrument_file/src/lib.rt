@@ -1,9 +1,10 @@
 // Document 01, "Instrument file" and refusals 1 to 6: reading a file.
 #![tactic(auto)]
 
-ghost use Rattle.std.specs.Prelude.{◌≡◌, true, ◌+◌, ◌-◌, ◌≤◌, ◌<◌};
-ghost use Rattle.std.proofs.lemmas.List.Edits.{sets};
-ghost use Rattle.counting.specs.Below.{all_below, tabulate, pad};
+ghost use Rattle.std.specs.Prelude.{◌≡◌, true, ◌-◌, ◌≤◌, ◌<◌, length};
+ghost use Rattle.std.specs.List.{list_all, range_with_len};
+ghost use Rattle.counting.specs.Below.{tabulate, pad};
+ghost use Rattle.instrument_fields.specs.Fields.{key_of};
 ghost use Rattle.little_endian.specs.Numbers.{u32_at};
 ghost use Rattle.instrument_fields.specs.Ranges.{string_in_range};
 ghost use Rattle.instrument_fields.specs.Unused.{no_key, no_string};
@@ -13,31 +14,25 @@ ghost use Rattle.instrument_file.specs.File.{offset_of, length_of, section, key_
 use instrument::{Instrument, keys_apart, string_sum};
 use instrument_fields::{
     KeyDesign, LoopDesign, common_in_range, key_in_range, no_key, no_string,
-    read_common, read_key, read_loop, size_8, string_in_range,
+    read_common, read_key, read_loop, string_in_range,
 };
 use little_endian::{byte_at, part, u32_at};
 use refusal::Refusal;
 
 // ---- the table and the sections
 
-fn size_32(x: u32) -> usize
-    ensures { result ≡ x }
-{
-    x as usize
-}
-
 fn section_offset(f: &[u8], i: usize) -> usize
     requires { i ≤ 16 }
     ensures { (result ≡ offset_of f.now i) × (result < 0x1_0000_0000) }
 {
-    size_32(u32_at(f, 4 + 8 * i))
+    u32_at(f, 4 + 8 * i) as usize
 }
 
 fn section_length(f: &[u8], i: usize) -> usize
     requires { i ≤ 16 }
     ensures { (result ≡ length_of f.now i) × (result < 0x1_0000_0000) }
 {
-    size_32(u32_at(f, 8 + 8 * i))
+    u32_at(f, 8 + 8 * i) as usize
 }
 
 fn section_at(f: &[u8], i: usize) -> &[u8]
@@ -54,7 +49,7 @@ fn section_at(f: &[u8], i: usize) -> &[u8]
 fn is_headed(f: &[u8]) -> bool
     ensures { result ≡ headed f.now }
 {
-    let d = size_32(u32_at(f, 0));
+    let d = u32_at(f, 0) as usize;
     (4 <= f.len()) & (2 <= d) & (d <= 17) & (4 + 8 * d <= f.len())
 }
 
@@ -63,7 +58,7 @@ fn key_count(f: &[u8]) -> usize
     requires { headed f.now ≡ true }
     ensures { (result ≡ u32_at f.now 0 - 1) × (1 ≤ result) × (result ≤ 16) }
 {
-    size_32(u32_at(f, 0)) - 1
+    u32_at(f, 0) as usize - 1
 }
 
 fn is_linked(f: &[u8], i: usize) -> bool
@@ -75,13 +70,9 @@ fn is_linked(f: &[u8], i: usize) -> bool
 
 fn all_linked(f: &[u8], n: usize) -> bool
     requires { n ≤ 16 }
-    ensures { result ≡ all_below n (linked f.now) }
+    ensures { result ≡ list_all (linked f.now) (range_with_len 0 n) }
 {
-    let mut all = true;
-    for i in 0..n {
-        all = all & is_linked(f, i);
-    }
-    all
+    (0..n).all(|i| is_linked(f, i))
 }
 
 fn is_chained(f: &[u8], n: usize) -> bool
@@ -98,19 +89,15 @@ fn is_chained(f: &[u8], n: usize) -> bool
 fn is_measured_key(b: &[u8]) -> bool
     ensures { result ≡ measured_key b.now }
 {
-    let s = size_8(byte_at(b, 2));
+    let s = usize::from(byte_at(b, 2));
     (1 <= s) & (s <= 3) & (b.len() == 36 + 44 * s)
 }
 
 fn keys_measured(f: &[u8], n: usize) -> bool
     requires { n ≤ 16 }
-    ensures { result ≡ all_below n (λ k. measured_key (key_section f.now k)) }
+    ensures { result ≡ list_all (λ k. measured_key (key_section f.now k)) (range_with_len 0 n) }
 {
-    let mut all = true;
-    for i in 0..n {
-        all = all & is_measured_key(section_at(f, i + 1));
-    }
-    all
+    (0..n).all(|k| is_measured_key(section_at(f, k + 1)))
 }
 
 fn is_measured(f: &[u8], n: usize) -> bool
@@ -132,31 +119,23 @@ fn loop_in(b: &[u8], j: usize) -> LoopDesign
 
 fn strings_fielded(b: &[u8], s: usize) -> bool
     requires { s < 256 }
-    ensures { result ≡ all_below s (λ j. string_in_range (loop_in b.now j)) }
+    ensures { result ≡ list_all (λ j. string_in_range (loop_in b.now j)) (range_with_len 0 s) }
 {
-    let mut all = true;
-    for i in 0..s {
-        all = all & string_in_range(loop_in(b, i));
-    }
-    all
+    (0..s).all(|j| string_in_range(loop_in(b, j)))
 }
 
 fn is_fielded_key(b: &[u8]) -> bool
     ensures { result ≡ fielded_key b.now }
 {
-    let s = size_8(byte_at(b, 2));
+    let s = usize::from(byte_at(b, 2));
     (byte_at(b, 1) <= 1) & (byte_at(b, 3) == 0) & key_in_range(read_key(b)) & strings_fielded(b, s)
 }
 
 fn keys_fielded(f: &[u8], n: usize) -> bool
     requires { n ≤ 16 }
-    ensures { result ≡ all_below n (λ k. fielded_key (key_section f.now k)) }
+    ensures { result ≡ list_all (λ k. fielded_key (key_section f.now k)) (range_with_len 0 n) }
 {
-    let mut all = true;
-    for i in 0..n {
-        all = all & is_fielded_key(section_at(f, i + 1));
-    }
-    all
+    (0..n).all(|k| is_fielded_key(section_at(f, k + 1)))
 }
 
 fn is_fielded(f: &[u8], n: usize) -> bool
@@ -168,43 +147,46 @@ fn is_fielded(f: &[u8], n: usize) -> bool
 
 // ---- the record's keys and strings
 
+// As many keys as `out` has places.
+fn read_keys(f: &[u8], out: &mut [KeyDesign])
+    requires { length out.old ≤ 16 }
+    ensures { out.new ≡ tabulate (length out.old) (λ k. key_of (key_section f.now k)) }
+{
+    for (k, key) in out.iter_mut().enumerate() {
+        *key = read_key(section_at(f, k + 1));
+    }
+}
+
 fn keys_of(f: &[u8], n: usize) -> [KeyDesign; 16]
     requires { n ≤ 16 }
     ensures { result ≡ pad 16 no_key (keys_in f.now n) }
 {
-    let unused = no_key();
-    let mut out = [unused; 16];
-    for i in 0..n {
-        out[i] = read_key(section_at(f, i + 1));
-    }
+    let mut out = [no_key(); 16];
+    read_keys(f, &mut out[..n]);
     out
 }
 
-// The s strings of a key's section, stored from m on.
-fn store_strings(b: &[u8], s: usize, m: usize, old: [LoopDesign; 32]) -> [LoopDesign; 32]
-    requires { (s < 256) × (m + s ≤ 32) }
-    ensures { result ≡ sets old m (tabulate s (loop_in b.now)) }
+// As many strings of a key's section as `out` has places.
+fn read_strings(b: &[u8], out: &mut [LoopDesign])
+    requires { length out.old < 256 }
+    ensures { out.new ≡ tabulate (length out.old) (loop_in b.now) }
 {
-    let mut out = old;
-    for j in 0..s {
-        out[m + j] = loop_in(b, j);
+    for (j, string) in out.iter_mut().enumerate() {
+        *string = loop_in(b, j);
     }
-    out
 }
 
 fn strings_of(f: &[u8], n: usize, keys: [KeyDesign; 16]) -> [LoopDesign; 32]
     requires { (n ≤ 16) × (keys ≡ pad 16 no_key (keys_in f.now n)) × (string_sum keys n ≤ 32) }
     ensures { result ≡ pad 32 no_string (strings_in f.now n) }
 {
-    let unused = no_string();
-    let mut out = [unused; 32];
-    let mut m = 0usize;
-    for i in 0..n {
-        let k = keys[i];
-        let s = k.strings;
-        let next = store_strings(section_at(f, i + 1), s, m, out);
-        out = next;
-        m += s;
+    let mut out = [no_string(); 32];
+    let mut m = 0;
+    let used = &keys[..n];
+    for (k, key) in used.iter().enumerate() {
+        let end = m + key.strings;
+        read_strings(section_at(f, k + 1), &mut out[m..end]);
+        m = end;
     }
     out
 }
@@ -227,7 +209,6 @@ fn instrument_of(f: &[u8], n: usize, m: usize, keys: [KeyDesign; 16]) -> Instrum
 }
 
 // The instrument of a file, or the first refusal of 1 to 6 that the whole file meets.
-#[tactic(auto, using(crate::proofs::Order::refused_over))]
 pub fn read(f: &[u8]) -> Result<Instrument, Refusal>
     ensures { result ≡ read_of f.now }
 {
@@ -245,11 +226,11 @@ pub fn read(f: &[u8]) -> Result<Instrument, Refusal>
         return Err(Refusal::Field);
     }
     let keys = keys_of(f, n);
-    let m = string_sum(keys, n);
-    if 32 < m {
+    let m = string_sum(&keys[..n]);
+    if m > 32 {
         return Err(Refusal::ManyStrings);
     }
-    if !keys_apart(keys, n) {
+    if !keys_apart(&keys[..n]) {
         return Err(Refusal::KeyTwice);
     }
     Ok(instrument_of(f, n, m, keys))

@@ -4,161 +4,108 @@
 use file_status::FileStatus;
 use instrument::Instrument;
 use little_endian::{part, u32_at};
-use program::arguments::{DONE, REFUSED, WRONG};
+use program::arguments::Failure;
+use program::input;
 use program::input::Input;
-use program::message::complain_of;
-use program::system::System;
-use program::{input, kind, output, streams};
+use program::message::TransferError;
+use program::output::{InUse, check_streams};
+use program::system::{Program, System};
+use refusal::Refusal;
+use std::fmt::InlineText;
 use std::io::Read;
-use std::num::wrapping_add_u64;
 
-// An instrument where `status` is DONE.
 #[derive(Clone, Copy)]
 pub struct Loaded {
-    pub status: u8,
     pub instrument: Instrument,
-    pub file: FileStatus,
+    pub file: Option<FileStatus>,
 }
 
-fn without(status: u8, file: FileStatus) -> Loaded {
-    let answer = instrument_file::read(b"");
-    let instrument = answer.instrument;
-    Loaded {
-        status,
-        instrument,
-        file,
-    }
-}
-
-// The refusal's line of answer.
-pub fn answer_refusal(rt: &impl System, program: &[u8], path: &[u8], refusal: u32) {
-    let mut line = [0u8; 128];
-    let n = text::put_refusal(&mut line, refusal as u64);
-    streams::write_answer(rt, program, path, &mut line, n);
+// The refusal's line of answer. The status is that of a refusal also where standard output does not take it.
+pub fn answer_refusal(
+    program: &Program<'_, impl System>,
+    path: &str,
+    refusal: Refusal,
+) -> Failure {
+    let line = InlineText::<128>::of(refusal);
+    let _ = program.answer_of(path, line.as_str());
+    Failure::Refused
 }
 
 // The file's instrument, or its refusal as the one line of answer.
 pub fn accept(
-    rt: &impl System,
-    program: &[u8],
-    path: &[u8],
+    program: &Program<'_, impl System>,
+    path: &str,
     bytes: &[u8],
-    file: FileStatus,
-) -> Loaded {
-    let answer = instrument_file::read(bytes);
-    let instrument = answer.instrument;
-    if answer.refusal == 0 {
-        return Loaded {
-            status: DONE,
-            instrument,
-            file,
-        };
+) -> Result<Instrument, Failure> {
+    match instrument_file::read(bytes) {
+        Ok(instrument) => Ok(instrument),
+        Err(refusal) => Err(answer_refusal(program, path, refusal)),
     }
-    answer_refusal(rt, program, path, answer.refusal);
-    without(REFUSED, file)
 }
 
 // ---- files that are longer than any instrument's
 
-// Whether the pairs so far chain, and where the last of them ends.
-#[derive(Clone, Copy)]
-struct Chain {
-    holds: bool,
-    end: u64,
+// Where pair i of the table ends, if it begins at `end`, where the one before it ends.
+fn linked(table: &[u8], i: u32, end: u64) -> Option<u64> {
+    let place = 4 + 8 * i as usize;
+    let offset = u64::from(u32_at(table, place));
+    let length = u64::from(u32_at(table, place + 4));
+    (end == offset).then_some(offset.saturating_add(length))
 }
 
-fn wide(x: u32) -> u64 {
-    x as u64
-}
-
-fn linked(table: &[u8], i: usize, chain: Chain) -> Chain {
-    if 16 < i {
-        return chain;
-    }
-    let offset = wide(u32_at(table, 4 + 8 * i));
-    let length = wide(u32_at(table, 8 + 8 * i));
-    Chain {
-        holds: chain.holds & (chain.end == offset),
-        end: wrapping_add_u64(offset, length),
-    }
-}
-
-fn table_end(sections: u32) -> u64 {
-    4 + 8 * (sections as u64)
-}
-
-// Whether the table's pairs, of which there are at most 17, chain from its end to the file's.
-fn is_chained(table: &[u8], size: i64) -> bool {
+// Where the last of the table's pairs ends, if there are at most 17 and they chain from the table's end on.
+fn chain_end(table: &[u8]) -> Option<u64> {
     let sections = u32_at(table, 0);
     if 17 < sections {
-        return false;
+        return None;
     }
-    let mut chain = Chain {
-        holds: true,
-        end: table_end(sections),
-    };
-    for i in 0..sections {
-        let next = linked(table, i as usize, chain);
-        chain = next;
+    (0..sections).try_fold(4 + 8 * u64::from(sections), |end, i| linked(table, i, end))
+}
+
+// A device has no size.
+fn size_of(file: Option<FileStatus>) -> Option<u64> {
+    match file {
+        Some(file) if file.is_regular() => Some(file.size),
+        _ => None,
     }
-    chain.holds & (input::offset_of(chain.end) == size)
 }
 
 // A file whose sections have the lengths of refusal 3 has less than 8,192 bytes: one that fills them is refused as 1, 2 or 3, by its table and its size alone.
-fn refusal_of_long(bytes: &[u8], size: i64) -> u32 {
-    let answer = instrument_file::read(bytes);
-    if answer.refusal == 1 {
-        return 1;
+fn refusal_of_long(bytes: &[u8], file: Option<FileStatus>) -> Refusal {
+    if let Err(Refusal::SectionCount) = instrument_file::read(bytes) {
+        return Refusal::SectionCount;
     }
-    if is_chained(bytes, size) { 3 } else { 2 }
-}
-
-// A device has no size, and no table chains to its end.
-fn size_of(file: FileStatus) -> i64 {
-    if kind::is_regular(file) {
-        file.size
-    } else {
-        -1
+    match (chain_end(bytes), size_of(file)) {
+        (Some(end), Some(size)) if end == size => Refusal::SectionLength,
+        _ => Refusal::Chain,
     }
 }
 
 // ---- reading
 
 fn read<S: Read>(
-    rt: &impl System,
-    program: &[u8],
-    path: &[u8],
+    program: &Program<'_, impl System>,
+    path: &str,
     source: &mut S,
-    file: FileStatus,
-) -> Loaded {
+    file: Option<FileStatus>,
+) -> Result<Instrument, Failure> {
     let mut bytes = [0u8; 8192];
-    let read = input::read_all(source, &mut bytes);
-    if read.error != 0 {
-        complain_of(rt, program, path, read.error);
-        return without(WRONG, file);
+    match input::read_all(source, &mut bytes) {
+        Ok(n) if n < 8192 => accept(program, path, part(&bytes, 0, n)),
+        Ok(_) => Err(answer_refusal(program, path, refusal_of_long(&bytes, file))),
+        Err(e) => Err(program.complain(path, TransferError(e))),
     }
-    if 8192 <= read.count {
-        answer_refusal(rt, program, path, refusal_of_long(&bytes, size_of(file)));
-        return without(REFUSED, file);
-    }
-    accept(rt, program, path, part(&bytes, 0, read.count), file)
 }
 
 // Answers and messages may not go into the file, which is asked before it can be refused: the refusal would go there too.
-fn load_from(rt: &impl System, program: &[u8], path: &[u8], opened: Input) -> Loaded {
-    let file = opened.file;
-    let used = output::in_use(rt, file, file);
-    if !output::are_streams_apart(rt, program, used) {
-        return without(WRONG, file);
-    }
-    let mut source = opened.source;
-    read(rt, program, path, &mut source, file)
-}
-
-pub fn load(rt: &impl System, program: &[u8], path: &[u8]) -> Loaded {
-    let opened = input::open(rt, program, path);
-    if !input::is_open(&opened) {
-        return without(WRONG, opened.file);
-    }
-    load_from(rt, program, path, opened)
+pub fn load(program: &Program<'_, impl System>, path: &str) -> Result<Loaded, Failure> {
+    let Input { source, file } = input::open(program, path)?;
+    let used = InUse {
+        file,
+        name: "the instrument",
+    };
+    check_streams(program, &[used])?;
+    let mut source = source;
+    let instrument = read(program, path, &mut source, file)?;
+    Ok(Loaded { instrument, file })
 }

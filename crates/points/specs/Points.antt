@@ -1,5 +1,5 @@
 -- Document 01, "One sample": "hammer and damper points", as in `render`: each string's contact force, memory, y_s and four writes. Definitions only.
-use Rattle.std.specs.Prelude.{List, true, cond, ℕ, eqb, get_or, set, Float}
+use Rattle.std.specs.Prelude.{List, Option, Some, None, true, cond, ℕ, eqb, get_or, set, Float}
 use Rattle.std.specs.Float.{nan, binary64}
 use Rattle.std.specs.Float.Ieee.{add, sub, mul, div, neg, lt}
 use Rattle.float.specs.Float.{min_of, positive_part, one, zero as +0}
@@ -9,8 +9,7 @@ use Rattle.string.specs.declared.StringDesign.{StringDesign}
 use Rattle.string.specs.declared.Reads.{Reads}
 use Rattle.string.specs.String.{at_yS, at_memory, reads_of, point_writes, nut_write}
 use Rattle.points.specs.declared.Constants.{Constants}
-use Rattle.points.specs.declared.HammerState.{HammerState}
-use Rattle.points.specs.declared.HammerState.TheVariants.{Resting, Flying}
+use Rattle.points.specs.declared.Flight.{Flight}
 use Rattle.points.specs.declared.Contact.{Contact}
 use Rattle.points.specs.declared.ForceSum.{ForceSum}
 
@@ -38,11 +37,12 @@ touched c yh vh ys memory r =
     record { force = f; memory = remembered c memory xp }
 
 -- the hammer touches the strings of its own key
-unfoldable pub contact_of : Constants → HammerState → ℕ → Float → Float → Reads → Contact
-contact_of c Resting key ys memory r = record { force = +0; memory = memory }
-contact_of c (Flying k yh vh) key ys memory r = cond (eqb k key) (touched c yh vh ys memory r) (record { force = +0; memory = memory })
+unfoldable pub contact_of : Constants → Option Flight → ℕ → Float → Float → Reads → Contact
+contact_of c None key ys memory r = record { force = +0; memory = memory }
+contact_of c (Some h) key ys memory r =
+    cond (eqb h.key_index key) (touched c h.y_h h.v_h ys memory r) (record { force = +0; memory = memory })
 
-abbrev pub contact_at : Constants → HammerState → StringDesign → Reads → List Float → Contact
+abbrev pub contact_at : Constants → Option Flight → StringDesign → Reads → List Float → Contact
 contact_at c h d r p = contact_of c h d.key (get_or p (at_yS d) nan) (get_or p (at_memory d) nan) r
 
 -- what the damper injects: v_d = (c + d) / (1 + R / 2z), then - R v_d / 2z
@@ -51,7 +51,7 @@ damped_by c R r =
     div binary64 (mul binary64 (neg R) (div binary64 (add binary64 r.c r.d) (add binary64 one (div binary64 R c.two_z)))) c.two_z
 
 -- one string's cells after both points, of the values read and a damper at R
-unfoldable pub struck : Constants → HammerState → Float → StringDesign → ℕ → Reads → List Float → List Float
+unfoldable pub struck : Constants → Option Flight → Float → StringDesign → ℕ → Reads → List Float → List Float
 struck c h R d t r p =
     let touch = contact_at c h d r p in
     let inject_h = div binary64 touch.force c.two_z in
@@ -59,7 +59,7 @@ struck c h R d t r p =
     point_writes d t r inject_h (damped_by c R r) (set (set p (at_memory d) touch.memory) (at_yS d) ys)
 
 -- read, struck, and the nut written, in one turn
-abbrev pub turned : Constants → HammerState → Float → StringDesign → ℕ → List Float → List Float
+abbrev pub turned : Constants → Option Flight → Float → StringDesign → ℕ → List Float → List Float
 turned c h R d t p = nut_write d t (reads_of d t p) (struck c h R d t (reads_of d t p) p)
 
 -- force_sum, and whether any force was above 0

@@ -20,15 +20,12 @@ pub struct Constants {
     pub hammer: Hammer,
 }
 
-// The Rust's `Option<HammerState>`.
+// A hammer that flies: the index of the key that it was struck at, where it is, and its speed. Where none flies there is no Flight.
 #[derive(Clone, Copy)]
-pub enum HammerState {
-    Resting,
-    Flying {
-        key_index: usize,
-        y_h: f64,
-        v_h: f64,
-    },
+pub struct Flight {
+    pub key_index: usize,
+    pub y_h: f64,
+    pub v_h: f64,
 }
 
 // A contact's force, and the felt's memory after it.
@@ -56,11 +53,11 @@ fn memory_after(c: Constants, memory: f64, xp: f64) -> f64
     }
 }
 
-fn touch(c: Constants, y_h: f64, v_h: f64, y_s: f64, memory: f64, r: Reads) -> Contact
-    ensures { result ≡ touched c y_h v_h y_s memory r }
+fn touch(c: Constants, h: Flight, y_s: f64, memory: f64, r: Reads) -> Contact
+    ensures { result ≡ touched c h.y_h h.v_h y_s memory r }
 {
     let hammer = c.hammer;
-    let c0 = (y_h - y_s) + c.dt * (v_h - r.a - r.b);
+    let c0 = (h.y_h - y_s) + c.dt * (h.v_h - r.a - r.b);
     let c1 = c.dt / c.two_z;
     let force = contact_force(hammer, hammer.eps * memory, c0, c1);
     let xp = power(positive_part(c0 - c1 * force), hammer.exponent);
@@ -72,22 +69,20 @@ fn touch(c: Constants, y_h: f64, v_h: f64, y_s: f64, memory: f64, r: Reads) -> C
 }
 
 // A string feels the hammer only where the hammer flies at its key.
-fn feel(c: Constants, h: HammerState, key: usize, y_s: f64, memory: f64, r: Reads) -> Contact
-    ensures { result ≡ contact_of c h key y_s memory r }
+#[tactic(auto, unfolding(crate::specs::Points::contact_of))]
+fn feel(
+    c: Constants,
+    hammer: Option<Flight>,
+    key: usize,
+    y_s: f64,
+    memory: f64,
+    r: Reads,
+) -> Contact
+    ensures { result ≡ contact_of c hammer key y_s memory r }
 {
-    match h {
-        HammerState::Resting => Contact { force: 0.0, memory },
-        HammerState::Flying {
-            key_index,
-            y_h,
-            v_h,
-        } => {
-            if key_index == key {
-                touch(c, y_h, v_h, y_s, memory, r)
-            } else {
-                Contact { force: 0.0, memory }
-            }
-        }
+    match hammer {
+        Some(h) if h.key_index == key => touch(c, h, y_s, memory, r),
+        _ => Contact { force: 0.0, memory },
     }
 }
 
@@ -102,7 +97,7 @@ fn inject(c: Constants, damper_r: f64, r: Reads) -> f64
 pub fn strike_string(
     part: &mut [f64],
     c: Constants,
-    h: HammerState,
+    hammer: Option<Flight>,
     d: StringDesign,
     damper_r: f64,
     x: Indices,
@@ -110,14 +105,14 @@ pub fn strike_string(
 ) -> f64
     requires strung { Strung d part.old }
     requires indices_at { IndicesAt d t x }
-    ensures { (result ≡ (contact_at c h d (reads_of d t part.old) part.old).force)
-        × (part.new ≡ turned c h damper_r d t part.old) }
+    ensures { (result ≡ (contact_at c hammer d (reads_of d t part.old) part.old).force)
+        × (part.new ≡ turned c hammer damper_r d t part.old) }
 {
     let y = string::at_y_s(d);
     let m = string::at_memory(d);
     let r = string::read_string(part, d, x, t);
     let y_s = part[y];
-    let touch = feel(c, h, d.key, y_s, part[m], r);
+    let touch = feel(c, hammer, d.key, y_s, part[m], r);
     let inject_h = touch.force / c.two_z;
     let inject_d = inject(c, damper_r, r);
     part[m] = touch.memory;
@@ -126,19 +121,12 @@ pub fn strike_string(
     touch.force
 }
 
+#[tactic(auto, unfolding(crate::specs::Points::summed))]
 pub fn add_force(s: ForceSum, f: f64) -> ForceSum
     ensures { result ≡ summed s f }
 {
-    let force_sum = s.force_sum + f;
-    if f > 0.0 {
-        ForceSum {
-            force_sum,
-            any_contact: true,
-        }
-    } else {
-        ForceSum {
-            force_sum,
-            any_contact: s.any_contact,
-        }
+    ForceSum {
+        force_sum: s.force_sum + f,
+        any_contact: f > 0.0 || s.any_contact,
     }
 }

@@ -1,120 +1,114 @@
 // A program's arguments, and its status. A Rattle program itself always ends with 0: the shell commands start it with the first argument --status, and it writes its status, a digit, to
 // the descriptor that they wait at.
-ghost use Rattle.io.specs.Counts.{IsPrefixLen};
+ghost use Rattle.std.specs.Prelude.{◌≤◌, IfOk, length};
 
-use crate::message::complain;
-use crate::system::System;
+use crate::system::{Program, System};
 use std::env::FillError;
-use std::num::wrapping_add_usize;
 use std::str;
 
-// All of the work was done; a file or the command line is wrong; an instrument is refused.
-pub const DONE: u8 = 0;
+// Why the work was not done: a file or the command line is wrong, which has been said, or an instrument is refused, which has been answered.
+#[derive(Clone, Copy, PartialEq, Eq)]
+pub enum Failure {
+    Wrong,
+    Refused,
+}
 
-pub const WRONG: u8 = 1;
-
-pub const REFUSED: u8 = 2;
+// The status of a program that did its work is 0.
+impl From<Failure> for u64 {
+    fn from(failure: Failure) -> u64 {
+        match failure {
+            Failure::Wrong => 1,
+            Failure::Refused => 2,
+        }
+    }
+}
 
 // The descriptor that the shell commands wait at.
 const STATUS: i32 = 3;
 
-// The arguments are `count`, from argument `first` on.
+// The arguments are `count`, from argument `first` on. Where somebody waits for the status, `awaited` is the descriptor that it goes to.
 #[derive(Clone, Copy)]
 pub struct Arguments {
-    pub first: usize,
+    first: usize,
     pub count: usize,
-    pub is_awaited: bool,
+    awaited: Option<i32>,
 }
 
 // Whether the command line has argument i.
 fn is_given(rt: &impl System, i: usize) -> bool {
     let mut start = [0u8; 1];
-    match rt.arg(i, &mut start) {
-        Ok(_) => true,
-        Err(FillError::TooLong) => true,
-        Err(FillError::NotPresent) => false,
-    }
+    !matches!(rt.arg(i, &mut start), Err(FillError::NotPresent))
 }
 
-fn behind(rt: &impl System, first: usize, is_awaited: bool) -> Arguments {
-    let mut count = 0usize;
-    for place in first..usize::MAX {
-        if !is_given(rt, place) {
-            break;
-        }
-        count = wrapping_add_usize(count, 1);
-    }
+// The arguments behind the first ones.
+fn behind(rt: &impl System, first: usize, awaited: Option<i32>) -> Arguments {
+    let given = (first..usize::MAX).position(|i| !is_given(rt, i));
     Arguments {
         first,
-        count,
-        is_awaited,
+        count: given.unwrap_or(usize::MAX),
+        awaited,
     }
 }
 
-// Argument i at the start of the bytes, and how many they are: 0 where it is missing, or longer than the bytes.
-pub fn word(rt: &impl System, i: usize, bytes: &mut [u8]) -> usize
-    ensures { IsPrefixLen result bytes.new }
+// Argument i, at the start of the bytes.
+fn argument<'b>(rt: &impl System, i: usize, bytes: &'b mut [u8]) -> Result<&'b [u8], FillError>
+    ensures { IfOk result (λ word. length word.now ≤ length bytes.old) }
 {
     match rt.arg(i, bytes) {
-        Ok(n) => n,
-        Err(_) => 0,
+        Ok(n) => Ok(&bytes[..n]),
+        Err(e) => Err(e),
     }
 }
 
 pub fn given(rt: &impl System) -> Arguments {
     let mut bytes = [0u8; 16];
-    let n = word(rt, 1, &mut bytes);
-    if &bytes[..n] == b"--status".as_slice() {
-        behind(rt, 2, true)
-    } else {
-        behind(rt, 1, false)
+    match argument(rt, 1, &mut bytes) {
+        Ok(b"--status") => behind(rt, 2, Some(STATUS)),
+        _ => behind(rt, 1, None),
     }
 }
 
 // Where the status is awaited, it is written.
-pub fn end(arguments: Arguments, status: u8) {
-    if arguments.is_awaited {
-        io::print_decimal(STATUS, status as u64);
+pub fn end(arguments: Arguments, outcome: Result<(), Failure>) {
+    if let Some(descriptor) = arguments.awaited {
+        io::print_decimal(descriptor, outcome.map_or_else(u64::from, |()| 0));
     }
 }
 
-// What is wrong with a word that is to name a file, or nothing.
-fn flaw_of(name: &[u8]) -> &'static [u8] {
-    if name.len() == 0 {
-        return b"the name is empty";
+impl Arguments {
+    // The i-th of the arguments, counted from 0, at the start of the bytes. One that is missing, or longer than the bytes, is an empty word.
+    pub fn word<'b>(self, rt: &impl System, i: usize, bytes: &'b mut [u8]) -> &'b [u8]
+        ensures { length result.now ≤ length bytes.old }
+    {
+        match argument(rt, self.first.saturating_add(i), bytes) {
+            Ok(word) => word,
+            Err(_) => b"",
+        }
     }
-    if str::from_utf8(name).is_err() {
-        return b"the name is no UTF-8 text";
-    }
-    b""
-}
 
-fn flaw_at(rt: &impl System, i: usize, bytes: &mut [u8]) -> (usize, &'static [u8])
-    ensures { IsPrefixLen result.0 bytes.new }
-{
-    match rt.arg(i, bytes) {
-        Ok(n) => (n, flaw_of(&bytes[..n])),
-        Err(FillError::TooLong) => (0, b"the name is longer than 4,096 bytes"),
-        Err(FillError::NotPresent) => (0, b"the name is empty"),
+    // The same as a name of a file. One that is empty, too long for a path, or no UTF-8 text, as which alone a file can be named, is said by what it stands for.
+    pub fn path<'b>(
+        self,
+        program: &Program<'_, impl System>,
+        i: usize,
+        what: &str,
+        bytes: &'b mut [u8],
+    ) -> Result<&'b str, Failure>
+        ensures { IfOk result (λ name. length name.now ≤ length bytes.old) }
+    {
+        match argument(program.rt, self.first.saturating_add(i), bytes) {
+            Ok(b"") | Err(FillError::NotPresent) => Err(program.complain(
+                what,
+                "the name is empty",
+            )),
+            Ok(name) => str::from_utf8(name).map_err(|_| program.complain(
+                what,
+                "the name is no UTF-8 text",
+            )),
+            Err(FillError::TooLong) => Err(program.complain(
+                what,
+                "the name is longer than 4,096 bytes",
+            )),
+        }
     }
-}
-
-// The i-th of the arguments, counted from 0, at the start of the bytes, and how many they are. One that is empty, too long for a path, or no UTF-8 text, as which alone a file can be named, is said
-// by what it stands for, and counts 0 bytes.
-pub fn path_at(
-    rt: &impl System,
-    program: &[u8],
-    given: Arguments,
-    i: usize,
-    what: &[u8],
-    bytes: &mut [u8],
-) -> usize
-    ensures { IsPrefixLen result bytes.new }
-{
-    let (n, flaw) = flaw_at(rt, wrapping_add_usize(given.first, i), bytes);
-    if flaw.len() != 0 {
-        complain(rt, program, what, flaw);
-        return 0;
-    }
-    n
 }

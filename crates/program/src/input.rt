@@ -1,16 +1,16 @@
 // Files that are read.
+use crate::arguments::Failure;
 use crate::kind;
-use crate::message::{NOT_OPEN, fail, number_of};
-use crate::system::System;
-use file_status::{FileStatus, Stream, status_at, status_of, status_of_stream, text_of};
+use crate::message::CallError;
+use crate::system::{Program, System};
+use file_status::{FileStatus, Stream, status_at, status_of, status_of_stream};
 use std::fs::File;
 use std::io;
 use std::io::{Read, Seek, SeekFrom, Stdin};
 
-// What is read: a file, standard input, or nothing that is open.
+// What is read: a file, or standard input.
 #[derive(Drop)]
 pub enum Source {
-    Closed,
     Opened(File),
     Standard(Stdin),
 }
@@ -19,7 +19,6 @@ pub enum Source {
 impl Read for Source {
     fn read(&mut self, buf: &mut [u8]) -> io::Result<usize> {
         match self {
-            Source::Closed => Err(io::Error::from_raw_os_error(NOT_OPEN)),
             Source::Opened(file) => file.read(buf),
             Source::Standard(stream) => stream.read(buf),
         }
@@ -30,116 +29,71 @@ impl Read for Source {
 impl Seek for Source {
     fn seek(&mut self, to: SeekFrom) -> io::Result<u64> {
         match self {
-            Source::Closed => Err(io::Error::from_raw_os_error(NOT_OPEN)),
             Source::Opened(file) => file.seek(to),
             Source::Standard(_) => Err(io::Error::from(io::ErrorKind::NotSeekable)),
         }
     }
 }
 
-// What is open for reading; `source` is closed where there is nothing, and then it has been said.
+// What is open for reading.
 #[derive(Drop)]
 pub struct Input {
     pub source: Source,
-    pub file: FileStatus,
-}
-
-// Whether there is something to read.
-pub fn is_open(input: &Input) -> bool {
-    match input.source {
-        Source::Closed => false,
-        Source::Opened(_) => true,
-        Source::Standard(_) => true,
-    }
+    pub file: Option<FileStatus>,
 }
 
 // What has been opened. A read of no bytes tells of one that cannot be read, and takes nothing.
-pub fn of(
-    rt: &impl System,
-    program: &[u8],
-    path: &[u8],
+fn of(
+    program: &Program<'_, impl System>,
+    path: &str,
     source: Source,
-    file: FileStatus,
-) -> Input {
+    file: Option<FileStatus>,
+) -> Result<Input, Failure> {
     let mut source = source;
-    let mut none = [0u8; 0];
-    match source.read(&mut none) {
-        Ok(_) => Input { source, file },
-        Err(e) => {
-            fail(rt, program, path, e);
-            closed(file)
-        }
-    }
-}
-
-fn closed(file: FileStatus) -> Input {
-    Input {
-        source: Source::Closed,
-        file,
+    match source.read(&mut []) {
+        Ok(_) => Ok(Input { source, file }),
+        Err(e) => Err(program.complain(path, CallError(e))),
     }
 }
 
 // Standard input.
-pub fn standard(rt: &impl System, program: &[u8]) -> Input {
-    let file = status_of_stream(rt, Stream::Input);
-    let source = Source::Standard(rt.input());
-    of(rt, program, b"standard input", source, file)
+pub fn standard(program: &Program<'_, impl System>) -> Result<Input, Failure> {
+    let file = status_of_stream(program.rt, Stream::Input);
+    let source = Source::Standard(program.rt.input());
+    of(program, "standard input", source, file)
 }
 
-pub fn open(rt: &impl System, program: &[u8], path: &[u8]) -> Input {
-    let file = status_at(rt, path);
-    if kind::is_barred(file) {
-        kind::complain_of(rt, program, path, file);
-        return closed(file);
-    }
-    match File::open(rt, text_of(path)) {
+pub fn open(program: &Program<'_, impl System>, path: &str) -> Result<Input, Failure> {
+    kind::check(program, path, status_at(program.rt, path))?;
+    match File::open(program.rt, path) {
         Ok(opened) => {
-            let status = status_of(&opened);
-            of(rt, program, path, Source::Opened(opened), status)
+            let file = status_of(&opened);
+            of(program, path, Source::Opened(opened), file)
         }
-        Err(e) => {
-            fail(rt, program, path, e);
-            closed(file)
-        }
+        Err(e) => Err(program.complain(path, CallError(e))),
     }
 }
 
-// How many bytes stand at the start of the lent ones; not all of the file's where it has more. `error` is the system's number where a read failed.
-#[derive(Clone, Copy)]
-pub struct Bytes {
-    pub count: usize,
-    pub error: i32,
-}
-
-// Reads until the file ends or the bytes are full.
-pub fn read_all<R: Read>(source: &mut R, bytes: &mut [u8]) -> Bytes {
+// Reads until the file ends or the bytes are full; how many of them are read. (std's `read_exact` fails where the file ends before, and its `read_to_end` wants a heap.)
+pub fn read_all<S: Read>(source: &mut S, bytes: &mut [u8]) -> io::Result<usize> {
     let mut done = 0usize;
     for _ in 0..u64::MAX {
         if bytes.len() <= done {
             break;
         }
-        match source.read(&mut bytes[done..]) {
-            Ok(0) => break,
-            Ok(n) => done += n,
-            Err(e) => {
-                return Bytes {
-                    count: 0,
-                    error: number_of(e),
-                };
-            }
+        match source.read(&mut bytes[done..])? {
+            0 => break,
+            n => done += n,
         }
     }
-    Bytes {
-        count: done,
-        error: 0,
-    }
+    Ok(done)
 }
 
-// A place in a file. One that no file reaches stands for every larger one.
-pub fn offset_of(at: u64) -> i64 {
-    if at < 0x1000_0000_0000_0000 {
-        at as i64
-    } else {
-        0x1000_0000_0000_0000
-    }
+// A place that no file reaches.
+const BEYOND: u64 = 0x1000_0000_0000_0000;
+
+// Fills the bytes from the file's byte `at` on. What has no positions is read on from where it stands.
+pub fn read_at<S: Read + Seek>(source: &mut S, bytes: &mut [u8], at: u64) -> io::Result<()> {
+    let _ = source.seek(SeekFrom::Start(at.min(BEYOND)));
+    source.read_exact(bytes)
 }

@@ -1,240 +1,173 @@
 // A file that is put in its place whole. The bytes go into a file beside it, under a name that nobody has, which then takes the place by a rename: whatever ends the program, the
 // path has the file that was there or all of the new bytes.
-use crate::message::{complain, complain_of, fail};
-use crate::output::{InUse, create, open_update};
-use crate::system::System;
-use crate::{kind, output};
-use file_status::{FileStatus, is_link, status_at, status_of, text_of};
-use little_endian::part;
+use crate::arguments::Failure;
+use crate::message::{CallError, TransferError};
+use crate::output::{InUse, check_apart, create, open_update};
+use crate::system::{Program, System};
+use file_status::{FileStatus, is_link, status_at, status_of};
+use std::fmt::InlineText;
 use std::fs::{File, Permissions};
-use std::num::wrapping_add_u64;
+use std::io::Write;
 use std::os::unix::fs::{PermissionsExt, fchown};
-use std::{fs, io};
-use text::{put, put_counted};
+use std::{fmt, fs, io};
 
 // ---- whether a file may be replaced
 
-// A rename needs no right to the file that goes; every other output needs it, and so does this one.
-fn is_writable(rt: &impl System, program: &[u8], path: &[u8]) -> bool {
-    match open_update(rt, path) {
-        Ok(_) => true,
-        Err(e) => {
-            fail(rt, program, path, e);
-            false
+// The path must name a regular file that may be written, or nothing, and none of those in use. Nothing is made. A rename needs no right to the file that goes; every other output needs it, and
+// so does this one.
+pub fn check(
+    program: &Program<'_, impl System>,
+    path: &str,
+    inputs: &[InUse],
+    answers: &'static str,
+) -> Result<(), Failure> {
+    check_apart(program, path, inputs, answers)?;
+    if is_link(program.rt, path) {
+        return Err(program.complain(
+            path,
+            "it is a symbolic link, and a file is wanted: name the one that it leads to",
+        ));
+    }
+    let Some(file) = status_at(program.rt, path) else {
+        return Ok(());
+    };
+    if !file.is_regular() {
+        return Err(program.complain(path, file.kind.words()));
+    }
+    match open_update(program.rt, path) {
+        Ok(_) => Ok(()),
+        Err(e) => Err(program.complain(path, CallError(e))),
+    }
+}
+
+// ---- why a file was not replaced
+
+#[derive(Clone, Copy)]
+enum ReplaceError {
+    NoneFree,
+    NotAdopted,
+    Write(io::Error),
+    Call(io::Error),
+}
+
+impl fmt::Display for ReplaceError {
+    fn fmt<W: fmt::Write>(&self, f: &mut fmt::Formatter<W>) -> fmt::Result {
+        match *self {
+            ReplaceError::NoneFree => f.write_str("no name is free for a temporary file beside it"),
+            ReplaceError::NotAdopted => f.write_str(
+                "its owner, group and permissions cannot be kept",
+            ),
+            ReplaceError::Write(e) => write!(f, "{}", TransferError(e)),
+            ReplaceError::Call(e) => write!(f, "{}", CallError(e)),
         }
     }
 }
 
-// Whether the path names a regular file that may be written, or nothing, and none of those in use, whose rows say what they are. Nothing is made.
-pub fn is_replaceable(
-    rt: &impl System,
-    program: &[u8],
-    path: &[u8],
-    used: InUse,
-    rows: &[u8],
-) -> bool {
-    if !output::is_apart(rt, program, path, used, rows) {
-        return false;
-    }
-    if is_link(rt, path) {
-        complain(
-            rt,
-            program,
-            path,
-            b"it is a symbolic link, and a file is wanted: name the one that it leads to",
-        );
-        return false;
-    }
-    let file = status_at(rt, path);
-    if !file.is_known {
-        return true;
-    }
-    if !kind::is_regular(file) {
-        kind::complain_of(rt, program, path, file);
-        return false;
-    }
-    is_writable(rt, program, path)
-}
-
 // ---- the file beside it
 
-// How many names are tried.
+// How many names are tried; they are numbered from as many on.
 const NAMES: u64 = 1000;
 
 // The longest path: the system's 4,096 bytes count the 0 behind it.
 const LONGEST_PATH: usize = 4095;
 
-// The file that was made and the length of its path, or why none could be made, or that no name was free.
-#[derive(Drop)]
-enum Beside {
-    Made(File, usize),
-    Failed(io::Error),
-    NoneFree,
-}
+type PathText = InlineText<4095>;
 
-// Where the path's last name starts.
-fn name_start(path: &[u8]) -> usize {
-    let mut start = 0usize;
-    for i in 0..path.len() {
-        if path[i] == b'/' {
-            start = i + 1;
-        }
+// The path up to its last name.
+fn folder_of(path: &str) -> &str {
+    match path.rfind('/') {
+        Some(slash) => &path[..slash + 1],
+        None => "",
     }
-    start
 }
 
-// Name i, `.PROGRAM-NUMBER`, behind the folder's path. Every system takes a name of its length, and where a path has no room for all of it, its last bytes are the name: it fits where any
+// The name `.PROGRAM-NUMBER` behind the folder's path. Every system takes a name of its length, and where a path has no room for all of it, its last bytes are the name: it fits where any
 // other does.
-fn put_name(path: &mut [u8], folder: usize, program: &[u8], i: u64) -> usize {
-    let mut name = [0u8; 64];
-    let dot = put(&mut name, 0, b".");
-    let at = put(&mut name, dot, program);
-    let n = put_counted(&mut name, at, b"-", wrapping_add_u64(NAMES, i));
-    let room = if folder < LONGEST_PATH {
-        LONGEST_PATH - folder
-    } else {
-        0
-    };
-    if n <= room {
-        return put(path, folder, part(&name, 0, n));
-    }
-    put(path, folder, part(&name, n - room, room))
+fn name_beside(folder: &str, program: &str, number: u64) -> PathText {
+    let name = InlineText::<64>::of(format_args!(".{program}-{number}"));
+    let name = name.as_str();
+    let room = LONGEST_PATH.saturating_sub(folder.len());
+    let skipped = name.len().saturating_sub(room);
+    let name = name.get(skipped..).unwrap_or("");
+    InlineText::of(format_args!("{folder}{name}"))
 }
 
-// Makes a file in the path's folder, and puts its path into the lent bytes. A name that is taken, or is the path's own, is passed over.
-fn make_beside(rt: &impl System, program: &[u8], path: &[u8], bytes: &mut [u8]) -> Beside {
-    let folder = put(bytes, 0, part(path, 0, name_start(path)));
-    for i in 0..NAMES {
-        let length = put_name(bytes, folder, program, i);
-        let name = part(bytes, 0, length);
-        if name != path {
-            match create(rt, name) {
-                Ok(file) => return Beside::Made(file, length),
-                Err(e) => {
-                    if e.kind() != io::ErrorKind::AlreadyExists {
-                        return Beside::Failed(e);
-                    }
-                }
+// Makes a file in the path's folder. A name that is taken, or is the path's own, is passed over.
+fn make_beside(
+    program: &Program<'_, impl System>,
+    path: &str,
+) -> Result<(File, PathText), ReplaceError> {
+    let folder = folder_of(path);
+    for number in NAMES..2 * NAMES {
+        let name = name_beside(folder, program.name, number);
+        if name.as_str() != path {
+            match create(program.rt, name.as_str()) {
+                Ok(file) => return Ok((file, name)),
+                Err(e) if e.kind() == io::ErrorKind::AlreadyExists => {}
+                Err(e) => return Err(ReplaceError::Call(e)),
             }
         }
     }
-    Beside::NoneFree
+    Err(ReplaceError::NoneFree)
 }
 
 // ---- what goes into it
 
-fn permissions(file: FileStatus) -> u32 {
-    file.mode % 0o1000
-}
-
 // Gives the new file the owner, the group and the permissions of the one that it is to replace. What it has already is not asked for, since some disks know one owner alone.
 fn adopt(to: &File, file: FileStatus) -> io::Result<()> {
     let own = status_of(to);
-    if (own.owner != file.owner) | (own.group != file.group) {
+    if !own.is_some_and(|own| own.owner == file.owner && own.group == file.group) {
         fchown(to, Some(file.owner), Some(file.group))?;
     }
-    if permissions(own) == permissions(file) {
+    if own.is_some_and(|own| own.permissions == file.permissions) {
         return Ok(());
     }
-    to.set_permissions(Permissions::from_mode(permissions(file)))
-}
-
-// Whether the system did what it was asked just now; else it is said.
-fn is_done(rt: &impl System, program: &[u8], path: &[u8], answer: io::Result<()>) -> bool {
-    match answer {
-        Ok(()) => true,
-        Err(e) => {
-            fail(rt, program, path, e);
-            false
-        }
-    }
+    to.set_permissions(Permissions::from_mode(file.permissions))
 }
 
 // The permissions come before the bytes: what few may read does not lie there for all.
-fn fill(rt: &impl System, program: &[u8], path: &[u8], to: &mut File, bytes: &[u8]) -> bool {
-    let file = status_at(rt, path);
-    if file.is_known {
-        if adopt(to, file).is_err() {
-            complain(
-                rt,
-                program,
-                path,
-                b"its owner, group and permissions cannot be kept",
-            );
-            return false;
-        }
+fn fill(to: &mut File, replaced: Option<FileStatus>, bytes: &[u8]) -> Result<(), ReplaceError> {
+    if let Some(file) = replaced {
+        adopt(to, file).map_err(|_| ReplaceError::NotAdopted)?;
     }
-    let written = output::write(to, bytes);
-    if written.error != 0 {
-        complain_of(rt, program, path, written.error);
-        return false;
-    }
-    is_done(rt, program, path, to.sync_all())
+    to.write_all(bytes).map_err(ReplaceError::Write)?;
+    to.sync_all().map_err(ReplaceError::Call)
 }
 
 // ---- the whole
 
-// The new file filled and closed.
-fn is_filled(rt: &impl System, program: &[u8], path: &[u8], to: File, bytes: &[u8]) -> bool {
-    let mut to = to;
-    fill(rt, program, path, &mut to, bytes)
-}
-
-// The same, and then renamed.
+// The new file filled, closed and then renamed.
 fn put_in_place(
     rt: &impl System,
-    program: &[u8],
-    name: &[u8],
-    path: &[u8],
+    name: &str,
+    path: &str,
     to: File,
     bytes: &[u8],
-) -> bool {
-    if !is_filled(rt, program, path, to, bytes) {
-        return false;
-    }
-    is_done(
-        rt,
-        program,
-        path,
-        fs::rename(rt, text_of(name), text_of(path)),
-    )
+) -> Result<(), ReplaceError> {
+    let mut to = to;
+    fill(&mut to, status_at(rt, path), bytes)?;
+    drop(to);
+    fs::rename(rt, name, path).map_err(ReplaceError::Call)
 }
 
-fn put_or_withdraw(
-    rt: &impl System,
-    program: &[u8],
-    name: &[u8],
-    path: &[u8],
-    to: File,
+fn try_replace(
+    program: &Program<'_, impl System>,
+    path: &str,
     bytes: &[u8],
-) -> bool {
-    let is_replaced = put_in_place(rt, program, name, path, to, bytes);
-    if !is_replaced {
-        let _ = fs::remove_file(rt, text_of(name));
-    }
-    is_replaced
+) -> Result<(), ReplaceError> {
+    let (to, name) = make_beside(program, path)?;
+    let name = name.as_str();
+    put_in_place(program.rt, name, path, to, bytes).map_err(|e| {
+        let _ = fs::remove_file(program.rt, name);
+        e
+    })
 }
 
 // The bytes as the file at the path; where it fails it has been said, what was there stays, and nothing is left beside it.
-pub fn replace(rt: &impl System, program: &[u8], path: &[u8], bytes: &[u8]) -> bool {
-    let mut space = [0u8; 4096];
-    match make_beside(rt, program, path, &mut space) {
-        Beside::Made(to, length) => {
-            let name = part(&space, 0, length);
-            put_or_withdraw(rt, program, name, path, to, bytes)
-        }
-        Beside::Failed(e) => {
-            fail(rt, program, path, e);
-            false
-        }
-        Beside::NoneFree => {
-            complain(
-                rt,
-                program,
-                path,
-                b"no name is free for a temporary file beside it",
-            );
-            false
-        }
-    }
+pub fn replace(
+    program: &Program<'_, impl System>,
+    path: &str,
+    bytes: &[u8],
+) -> Result<(), Failure> {
+    try_replace(program, path, bytes).map_err(|e| program.complain(path, e))
 }

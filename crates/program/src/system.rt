@@ -25,3 +25,9 @@ impl System for HostRuntime {
         self.stderr()
     }
 }
+
+// A program that runs, by the name that its messages begin with.
+pub struct Program<'a, R: System> {
+    pub rt: &'a R,
+    pub name: &'static str,
+}

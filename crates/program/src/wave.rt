@@ -1,90 +1,52 @@
 // A WAV file that grows. After every block its header says how many samples stand behind it, so that whatever ends the program leaves a file that opens, with all that was written.
 use crate::floats::write_floats;
-use crate::message::{DEVICE_FAILED, NOT_OPEN, number_of};
-use crate::output;
-use crate::output::Output;
+use crate::output::{Output, cut};
 use std::io;
 use std::io::{Seek, SeekFrom};
-use std::num::wrapping_add_u64;
 use std::os::unix::fs::FileExt;
 
-// `error` is the system's number once a write has failed; nothing is written behind it.
 #[derive(Drop)]
 pub struct Wave {
-    pub out: Output,
-    pub rate: u64,
+    out: Output,
+    rate: u64,
     pub samples: u64,
-    pub error: i32,
 }
 
-// The bytes at the file's start. Where the next ones go stays as it is.
-fn write_first(out: &Output, bytes: &[u8]) -> io::Result<usize> {
-    match &out.handle {
-        Some(file) => file.write_at(bytes, 0),
-        None => Err(io::Error::from_raw_os_error(NOT_OPEN)),
-    }
-}
-
-// The system's number where the header could not be written, or 0.
-fn header_error(out: &Output, rate: u64, samples: u64) -> i32 {
-    let header = wav::header(rate, samples);
-    match write_first(out, &header) {
-        Ok(58) => 0,
-        Ok(_) => DEVICE_FAILED,
-        Err(e) => number_of(e),
-    }
-}
-
-fn put_header(wave: &mut Wave) {
-    let error = header_error(&wave.out, wave.rate, wave.samples);
-    if error != 0 {
-        wave.error = error;
-    }
-}
-
-// The next bytes go behind the header.
-fn move_behind_header(out: &mut Output) {
-    match &mut out.handle {
-        Some(file) => {
-            let _ = file.seek(SeekFrom::Start(58));
-        }
-        None => {}
-    }
-}
-
-// The file emptied, with the header of no samples.
-pub fn begin(out: Output, rate: u64) -> Wave {
+// The file emptied, with the header of no samples. The next bytes go behind it.
+pub fn begin(out: Output, rate: u64) -> io::Result<Wave> {
     let mut wave = Wave {
         out,
         rate,
         samples: 0,
-        error: 0,
     };
-    match output::cut(&wave.out, 0) {
-        Ok(()) => {
-            put_header(&mut wave);
-            move_behind_header(&mut wave.out);
+    cut(&wave.out, 0)?;
+    wave.put_header()?;
+    let _ = wave.out.handle.seek(SeekFrom::Start(wav::HEADER as u64));
+    Ok(wave)
+}
+
+impl Wave {
+    // Where the next bytes go stays as it is. A header that goes out in part counts as a failure of the device.
+    fn put_header(&self) -> io::Result<()> {
+        let header = wav::header(self.rate, self.samples);
+        match self.out.handle.write_at(&header, 0)? {
+            wav::HEADER => Ok(()),
+            _ => Err(io::Error::from(io::ErrorKind::WriteZero)),
         }
-        Err(e) => wave.error = number_of(e),
     }
-    wave
-}
 
-// Behind a write that failed: what it left of a sample goes.
-fn mend(wave: &Wave) {
-    if wave.error != 0 {
-        let _ = output::cut(&wave.out, wav::file_size(wave.samples));
+    // More samples, and the header that counts them. Behind a write that failed, what it left of a sample goes; nothing more is to be written then.
+    pub fn append(&mut self, floats: &[f64], bytes: &mut [u8; 16384]) -> io::Result<()> {
+        let written = write_floats(&mut self.out, floats, bytes);
+        let count = match written {
+            Ok(()) => floats.len(),
+            Err(unfinished) => unfinished.count / 8,
+        };
+        self.samples = self.samples.saturating_add(count as u64);
+        if written.is_err() {
+            let _ = cut(&self.out, wav::file_size(self.samples).cast_unsigned());
+        }
+        self.put_header()?;
+        written.map_err(|unfinished| unfinished.error)
     }
-}
-
-// More samples, and the header that counts them.
-pub fn append(wave: &mut Wave, floats: &[f64], bytes: &mut [u8; 16384]) {
-    if wave.error != 0 {
-        return;
-    }
-    let written = write_floats(&mut wave.out, floats, bytes);
-    wave.samples = wrapping_add_u64(wave.samples, (written.count / 8) as u64);
-    wave.error = written.error;
-    mend(wave);
-    put_header(wave);
 }

@@ -98,18 +98,15 @@ advanced_rendered i score t m {b = b} w h =
 
 -- ---- one turn of the loop over samples
 
--- the code's run where the loop stands
-abbrev pub run_of : Piano → List Float → List ℕ → Motion → ℕ → ℕ → Run
-run_of p R counts motion done pushed = record { piano = with_motion p R counts motion; done = done; pushed = pushed }
-
-module _ (m : Model) (down : ℕ → Bool) (t : ℕ) (p : Piano) (R : List Float) (counts : List ℕ) (motion : Motion) (w : List Float) (done pushed : ℕ)
-    (step : Step) (e : step ≡ sampled m down (t + done) R motion w) (counts' : List ℕ) (hc : counts' ≡ counted_for motion.hammer step.contact counts)
+module _ (m : Model) (down : ℕ → Bool) (t : ℕ) (p : Piano) (w : List Float) (done pushed : ℕ)
+    (step : Step) (e : step ≡ sampled m down (t + done) p.damper_r p.motion w) (counts : List ℕ) (hc : counts ≡ counted_for p.motion.hammer step.contact p.contact_samples)
     (pushed' : ℕ) (hp : pushed' ≡ pushed + length step.force) where
+  -- the code's run where the loop stands, and a sample on
   abbrev before : Run
-  before = run_of p R counts motion done pushed
+  before = record { piano = p; done = done; pushed = pushed }
 
   abbrev after : Run
-  after = run_of p step.damper_r counts' step.motion (done + 1) pushed'
+  after = record { piano = with_motion p step.damper_r counts step.motion; done = done + 1; pushed = pushed' }
 
   -- a sample, its output stored and its force pushed
   turn_advanced : {out trace out' trace' : List Float} → out' ≡ set out done step.out → trace' ≡ sets trace pushed step.force
@@ -129,12 +126,12 @@ module _ (m : Model) (down : ℕ → Bool) (t : ℕ) (p : Piano) (R : List Float
   turn_in_range : {keys stop : ℕ} → InRange keys before t stop → done < stop → InRange keys after t stop
   unfolding contacts_of
   turn_in_range {keys} r more =
-      let count = rw (← hc) at (counted_most keys motion.hammer step.contact counts) in
-      let few = rw (← e) at (sampled_force m down (t + done) R motion w) in
+      let count = rw (← hc) at (counted_most keys p.motion.hammer step.contact p.contact_samples) in
+      let few = rw (← e) at (sampled_force m down (t + done) p.damper_r p.motion w) in
       record {
         below = omega arith;
         end = r.end;
-        piano = record { within = omega (arith, count, r.piano.within); hammer = rw (← e) at (sampled_on keys m down (t + done) R motion w r.piano.hammer) };
+        piano = record { within = omega (arith, count, r.piano.within); hammer = rw (← e) at (sampled_on keys m down (t + done) p.damper_r p.motion w r.piano.hammer) };
         pushes = omega (arith, r.pushes);
       }
 

@@ -1,10 +1,9 @@
 -- Document 01: "The render of a score goes from silence through samples 0, 1, 2 and on, in one run, each by the rules for one sample." Definitions only.
 use Rattle.float.specs.Float.{zero as +0}
-use Rattle.std.specs.Prelude.{◌≡◌, Bool, true, false, cond, List, [], ◌∷◌, ℕ, ◌+◌, ◌-◌, ◌≤◌, ◌<◌, ◌^◌, length, get_or, replicate, Float}
+use Rattle.std.specs.Prelude.{◌≡◌, Bool, true, false, cond, List, [], ◌∷◌, ℕ, ◌+◌, ◌-◌, ◌≤◌, ◌<◌, ◌^◌, length, get_or, replicate, None, Float}
 use Rattle.std.proofs.lemmas.List.Edits.{sets}
 use Rattle.counting.specs.Below.{sum_below}
 use Rattle.instrument.specs.declared.Instrument.{Instrument}
-use Rattle.points.specs.declared.HammerState.TheVariants.{Resting}
 use Rattle.strings.specs.Strings.{cells_of}
 use Rattle.sample.specs.declared.Motion.{Motion}
 use Rattle.sample.specs.Sample.{Model, model_at, sampled, counted_for}
@@ -82,7 +81,7 @@ silent_piano = record {
   damper_r = replicate 16 +0;
   contact_samples = replicate 16 0;
   pedal = false;
-  motion = record { hammer = Resting; peak_force = +0 };
+  motion = record { hammer = None; peak_force = +0 };
 }
 
 unfoldable pub silence : Instrument → State

@@ -1,19 +1,18 @@
 // The render of a score: one loop over samples for playing, with output and trace, and for going on without.
 #![tactic(auto)]
 
-ghost use Rattle.std.specs.Prelude.{◌≡◌, ℕ, ◌+◌, ◌≤◌, ◌<◌, ◌^◌, length, set, replicate};
+ghost use Rattle.std.specs.Prelude.{◌≡◌, ℕ, ◌+◌, ◌≤◌, ◌<◌, ◌^◌, length, set, replicate, option_to_list};
 ghost use Rattle.float.specs.Float.{zero};
 ghost use Rattle.std.proofs.lemmas.List.Edits.{sets};
-ghost use Rattle.sample.specs.Sample.{Ready, forces_of};
+ghost use Rattle.sample.specs.Sample.{Ready};
 ghost use Rattle.sample_constants.specs.Model.{StringsFilled};
 ghost use Rattle.score.specs.Events.{Playable};
 ghost use Rattle.score.specs.Score.{events_of};
 ghost use Rattle.render.specs.Render.{Advanced, InRange, PianoAt, NextStretch, Renderable, Rendered, rendering_of, unstarted, stretch_step, silent_piano};
 
 use instrument::Instrument;
-use points::HammerState;
 use sample::{Motion, Setup};
-use score::{Piano, Score};
+use score::{Piano, Score, TimedEvent};
 
 // A run in progress: the piano, how many samples are done, and how many forces were pushed.
 #[derive(Clone, Copy)]
@@ -44,15 +43,16 @@ fn put(cells: &mut [f64], i: usize, x: f64)
 }
 
 // The force of a sample that has a hammer goes behind the k forces there are.
-fn push(trace: &mut [f64], k: usize, pushed: bool, force: f64) -> usize
+fn push(trace: &mut [f64], k: usize, force: Option<f64>) -> usize
     requires { k + 1 < 2 ^ 64 }
-    ensures { (result ≡ k + length (forces_of pushed force)) × (trace.new ≡ sets trace.old k (forces_of pushed force)) }
+    ensures { (result ≡ k + length (option_to_list force)) × (trace.new ≡ sets trace.old k (option_to_list force)) }
 {
-    if pushed {
-        put(trace, k, force);
-        k + 1
-    } else {
-        k
+    match force {
+        Some(f) => {
+            put(trace, k, f);
+            k + 1
+        }
+        None => k,
     }
 }
 
@@ -74,67 +74,42 @@ fn play_stretch(
         (rendering_of result part.new out.new trace.new)
         × (result.done ≡ stretch.stop) × InRange stretch.setup.keys result stretch.t stretch.stop }
 {
-    let setup = stretch.setup;
-    let down = stretch.down;
-    let run = stretch.run;
-    let piano = run.piano;
-    let held = piano.held;
-    let hand_damped = piano.hand_damped;
-    let mut damper_r = piano.damper_r;
-    let mut contact_samples = piano.contact_samples;
-    let mut motion = piano.motion;
-    let mut done = run.done;
+    let Stretch {
+        setup,
+        down,
+        run,
+        t,
+        stop,
+    } = stretch;
+    let mut piano = run.piano;
     let mut pushed = run.pushed;
-    let t = stretch.t;
-    let stop = stretch.stop;
-    let mut indices = strings::first_indices(lengths, coefficients, setup.strings, t + done);
-    while done < stop {
+    let mut indices = strings::first_indices(lengths, coefficients, setup.strings, t + run.done);
+    for done in run.done..stop {
         let at = t + done;
-        let hammer = motion.hammer;
+        let hammer = piano.motion.hammer;
         let s = sample::sample(
             part,
             scratch,
-            &mut damper_r,
+            &mut piano.damper_r,
             &down,
             table,
             lengths,
             coefficients,
             &indices,
             setup,
-            motion,
+            piano.motion,
             at,
         );
         strings::next_indices(&mut indices, lengths, coefficients, setup.strings, at);
-        sample::count_contact(&mut contact_samples, hammer, s.contact);
+        sample::count_contact(&mut piano.contact_samples, hammer, s.contact);
         put(out, done as usize, s.out);
-        pushed = push(trace, pushed, s.pushed, s.force);
-        motion = s.motion;
-        done += 1;
+        pushed = push(trace, pushed, s.force);
+        piano.motion = s.motion;
     }
     Run {
-        piano: Piano {
-            held,
-            hand_damped,
-            damper_r,
-            contact_samples,
-            pedal: piano.pedal,
-            motion,
-        },
-        done,
+        piano,
+        done: stop,
         pushed,
-    }
-}
-
-// How far a stretch goes that starts at t + done: to the next event, or to m; one sample at least.
-fn stop_at(next: u64, t: u64, done: u64, m: u64) -> u64
-    requires done_lt_m { done < m }
-    requires m_bound { t + m < 2 ^ 64 }
-    ensures { (done < result) × (result ≤ m) × ((u : ℕ) → t + done + 1 ≤ u → u < t + result → u < next) }
-{
-    if next <= t + done {
-        done + 1
-    } else {
-        if next - t < m { next - t } else { m }
     }
 }
 
@@ -144,34 +119,28 @@ fn next_stretch(
     lengths: &[usize; 160],
     coefficients: &[f64; 128],
     instrument: Instrument,
-    score: Score,
+    events: &[TimedEvent],
     run: Run,
     t: u64,
     m: u64,
 ) -> Stretch
     requires playable { Playable instrument lengths.now coefficients.now instrument.string_count part.old }
     requires strings_filled { StringsFilled instrument lengths.now coefficients.now }
-    requires count_bound { score.count ≤ 64 }
     requires done_lt_m { run.done < m }
     requires m_bound { t + m < 2 ^ 64 }
-    ensures { NextStretch instrument (events_of score) t m run part.old part.new result }
+    ensures { NextStretch instrument events.now t m run part.old part.new result }
 {
     let at = t + run.done;
     let n = instrument.string_count;
-    let piano = run.piano;
-    let setup = sample_constants::setup_of(instrument);
-    let acted = score::apply_events(part, lengths, coefficients, n, instrument, score, piano, at);
-    let down = score::dampers_down(instrument, acted);
-    let next = score::next_event(score, at + 1);
-    let stop = stop_at(next, t, run.done, m);
+    let piano = score::apply_events(part, lengths, coefficients, n, instrument, events, run.piano, at);
+    let stop = match score::next_event(events, at + 1) {
+        Some(next) => m.min(next - t),
+        None => m,
+    };
     Stretch {
-        setup,
-        down,
-        run: Run {
-            piano: acted,
-            done: run.done,
-            pushed: run.pushed,
-        },
+        setup: sample_constants::setup_of(instrument),
+        down: score::dampers_down(instrument, piano),
+        run: Run { piano, ..run },
         t,
         stop,
     }
@@ -198,23 +167,31 @@ pub fn render(
 {
     let table = sample_constants::key_table(instrument);
     let tables = sample_constants::string_tables(instrument);
-    let lengths = tables.lengths;
-    let coefficients = tables.coefficients;
+    let events = &score.events[..score.count];
     let mut run = Run {
-        piano: piano,
+        piano,
         done: 0,
         pushed: 0,
     };
     while run.done < m {
-        let stretch = next_stretch(part, &lengths, &coefficients, instrument, score, run, t, m);
+        let stretch = next_stretch(
+            part,
+            &tables.lengths,
+            &tables.coefficients,
+            instrument,
+            events,
+            run,
+            t,
+            m,
+        );
         run = play_stretch(
             part,
             scratch,
             out,
             trace,
             &table,
-            &lengths,
-            &coefficients,
+            &tables.lengths,
+            &tables.coefficients,
             stretch,
         );
     }
@@ -222,6 +199,7 @@ pub fn render(
 }
 
 // The piano of silence: zero, false, none.
+#[tactic(auto, unfolding(crate::specs::Render::silent_piano))]
 pub fn silent_piano() -> Piano
     ensures { result ≡ silent_piano }
 {
@@ -232,7 +210,7 @@ pub fn silent_piano() -> Piano
         contact_samples: [0; 16],
         pedal: false,
         motion: Motion {
-            hammer: HammerState::Resting,
+            hammer: None,
             peak_force: 0.0,
         },
     }
@@ -242,7 +220,5 @@ pub fn silent_piano() -> Piano
 pub fn silence_part(part: &mut [f64])
     ensures { part.new ≡ replicate (length part.old) zero }
 {
-    for i in 0..part.len() {
-        part[i] = 0.0;
-    }
+    part.fill(0.0);
 }

@@ -16,17 +16,18 @@ use Rattle.strings.specs.Laws.{AllSound, turns_are, forces_are, bridge_front, br
 use Rattle.keys.specs.Keys.{dampers, bridge_speeds}
 use Rattle.keys.specs.Laws.{speeds_front}
 use Rattle.sample.specs.declared.Motion.{Motion}
-use Rattle.sample.specs.Sample.{Model, Step, Bridged, moved, pushed_by, forces_of, sampled}
+use Rattle.sample.specs.Sample.{Model, Step, Bridged, moved, sampled}
+use Rattle.std.specs.Prelude.{Option, option_map, option_to_list, is_some}
 
 module _ (m : Model) (down : ℕ → Bool) (t : ℕ) (R : List Float) (motion : Motion) (w rest : List Float) (ok : AllSound m.strings) (h : cells_of m.strings ≤ length w)
-    {R' w1 w2 w3 : List Float} {f : ForceSum} {after : Motion} {out : Float} {pushed : Bool}
+    {R' w1 w2 w3 : List Float} {f : ForceSum} {after : Motion} {out : Float} {force : Option Float}
     (hR : R' ≡ dampers m.keys down R)
     (h1 : w1 ≡ filtered_all m.strings t w)
     (h2 : w2 ≡ turned_all m.constants motion.hammer R' m.strings t w1)
     (hf : f ≡ force_all m.constants motion.hammer m.strings t w1 no_force)
     (hm : after ≡ moved m.constants motion.hammer motion.peak_force f)
     (hb : Bridged m t (v_ins m.strings t w ++ rest) w2 w3 out)
-    (hp : pushed ≡ pushed_by motion.hammer) where
+    (hp : force ≡ option_map (λ _. f.force_sum) motion.hammer) where
   abbrev ds : List StringDesign
   ds = m.strings
 
@@ -60,7 +61,7 @@ module _ (m : Model) (down : ℕ → Bool) (t : ℕ) (R : List Float) (motion : 
   out_is = rw (speeds_are, w2_is) at hb.out ∙ bridge_force_front speeds v rest ds nuts one_each m.constants.z +0
 
   pub sample_is
-      : ◌≡◌ {A = Step} (record { damper_r = R'; motion = after; cells = w3; out = out; force = forces_of pushed f.force_sum; contact = pushed && f.any_contact })
+      : ◌≡◌ {A = Step} (record { damper_r = R'; motion = after; cells = w3; out = out; force = option_to_list force; contact = is_some motion.hammer && f.any_contact })
       (sampled m down t R motion w)
   unfolding sampled
   sample_is = rw (hR, hm, w3_is, out_is, hp, f_is)

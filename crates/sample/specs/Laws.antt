@@ -2,14 +2,14 @@
 -- lent cells asks only their number.
 use Rattle.std.proofs.Math.Path.{◌≡◌}
 use Rattle.std.proofs.Common.{ap, subst}
-use Rattle.std.specs.Prelude.{Bool, List, [], ◌∷◌, ℕ, ◌≤◌, ◌<◌, T, get_or, Float}
+use Rattle.std.specs.Prelude.{Bool, List, [], ◌∷◌, ℕ, ◌≤◌, ◌<◌, T, get_or, Option, None, Some, is_some, option_map, option_to_list, Float}
 use Rattle.std.proofs.Math.Bool.{true, false}
 use native.Mathlib.Omega.{arith}
 use Rattle.std.proofs.Math.ListN.{length}
 use Rattle.std.specs.Float.Ieee.{le}
 use Rattle.std.specs.Float.Ieee.Positive.{positive}
 use Rattle.float.specs.Float.{zero as +0}
-use Rattle.points.specs.declared.HammerState.TheVariants.{Resting}
+use Rattle.points.specs.declared.Flight.{Flight}
 use Rattle.string.specs.declared.Reads.{Reads}
 use Rattle.points.specs.Points.{c1_of}
 use Rattle.strings.specs.Strings.{reads_all, filtered_all}
@@ -17,7 +17,7 @@ use Rattle.strings.specs.Bound.{TopsFit, point_bound, force_sum_bound}
 use Rattle.keys.specs.Laws.{dampers_same}
 use Rattle.sample.specs.declared.Motion.{Motion}
 use Rattle.sample.specs.declared.Setup.{Setup}
-use Rattle.sample.specs.Sample.{Model, Ready, pushed_by, forces_of, sampled}
+use Rattle.sample.specs.Sample.{Model, Ready, sampled}
 
 -- cells that are ready stay so: only their number is asked
 pub ready_kept : {setup : Setup} {lengths : List ℕ} {coefficients w v w' v' : List Float} → Ready setup lengths coefficients w v → length w' ≡ length w → length v' ≡ length v
@@ -26,18 +26,18 @@ ready_kept r hw hv = record { fit = r.fit; keys = r.keys; cells = omega (arith, 
 
 module _ (m : Model) (down : ℕ → Bool) (t : ℕ) (R : List Float) (motion : Motion) (w : List Float) where
   -- only a hammer that flies is in contact
-  pub sampled_contact : motion.hammer ≡ Resting → (sampled m down t R motion w).contact ≡ false
-  unfolding sampled pushed_by
+  pub sampled_contact : motion.hammer ≡ None → (sampled m down t R motion w).contact ≡ false
+  unfolding sampled
   sampled_contact e = rw e
 
   -- one force or none
   pub sampled_force : length (sampled m down t R motion w).force ≤ 1
   unfolding sampled
-  sampled_force = by_test (pushed_by motion.hammer) _
+  sampled_force = by_hammer motion.hammer _
     where
-      by_test : (b : Bool) (f : Float) → length (forces_of b f) ≤ 1
-      by_test true f = omega arith
-      by_test false f = omega arith
+      by_hammer : (h : Option Flight) (f : Float) → length (option_to_list (option_map (λ _. f) h)) ≤ 1
+      by_hammer (Some h) f = omega arith
+      by_hammer None f = omega arith
 
   -- of `down` it reads only the keys there are
   pub sampled_same : (up : ℕ → Bool) → ((k : ℕ) → k < length m.keys → down k ≡ up k) → sampled m down t R motion w ≡ sampled m up t R motion w
@@ -60,11 +60,11 @@ module _ (m : Model) (down : ℕ → Bool) (t : ℕ) (R : List Float) (motion : 
       → (f : Float) → (sampled m down t R motion w).force ≡ f ∷ [] → T (le +0 f) × T (le f bound)
   unfolding sampled
   sampled_bound q fit f e =
-      by_test (pushed_by motion.hammer) _ e (force_sum_bound m.constants motion.hammer m.strings v w' q fit)
+      by_hammer motion.hammer _ e (force_sum_bound m.constants motion.hammer m.strings v w' q fit)
     where
       none : ◌≡◌ {A = ℕ} 0 1 → ⊥
       none h = omega arith
 
-      by_test : (b : Bool) (s : Float) → forces_of b s ≡ f ∷ [] → T (le +0 s) × T (le s bound) → T (le +0 f) × T (le f bound)
-      by_test true s h k = subst (λ (x : Float). T (le +0 x) × T (le x bound)) (ap (λ (l : List Float). get_or l 0 +0) h) k
-      by_test false s h k = absurd (none (ap length h))
+      by_hammer : (h : Option Flight) (s : Float) → option_to_list (option_map (λ _. s) h) ≡ f ∷ [] → T (le +0 s) × T (le s bound) → T (le +0 f) × T (le f bound)
+      by_hammer (Some h) s e k = subst (λ (x : Float). T (le +0 x) × T (le x bound)) (ap (λ (l : List Float). get_or l 0 +0) e) k
+      by_hammer None s e k = absurd (none (ap length e))

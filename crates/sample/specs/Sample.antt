@@ -1,6 +1,6 @@
 -- Document 01, "One sample": "`render` gives the order: events whose position is not above t; dampers; all reads and loop filters; hammer and damper
 -- points; hammer motion; nut; bridge." All but the events, which crate `score` defines. Definitions only.
-use Rattle.std.specs.Prelude.{◌≡◌, List, [], ◌∷◌, Bool, true, false, cond, ◌&&◌, ℕ, ◌+◌, ◌≤◌, ◌<◌, ◌^◌, length, get_or, Float}
+use Rattle.std.specs.Prelude.{◌≡◌, List, [], ◌∷◌, Bool, true, false, cond, ◌&&◌, ℕ, ◌+◌, ◌≤◌, ◌<◌, ◌^◌, length, get_or, Option, None, Some, is_some, option_map, option_to_list, Float}
 use Rattle.std.specs.Float.{binary64}
 use Rattle.std.specs.Float.Ieee.{add, sub, mul, div, lt}
 use Rattle.float.specs.Float.{max_of, zero as +0}
@@ -8,8 +8,7 @@ use Rattle.counting.specs.Sums.{raised}
 use Rattle.string.specs.declared.StringDesign.{StringDesign}
 use Rattle.string.specs.Table.{table_strings}
 use Rattle.points.specs.declared.Constants.{Constants}
-use Rattle.points.specs.declared.HammerState.{HammerState}
-use Rattle.points.specs.declared.HammerState.TheVariants.{Resting, Flying}
+use Rattle.points.specs.declared.Flight.{Flight}
 use Rattle.points.specs.declared.ForceSum.{ForceSum}
 use Rattle.strings.specs.Strings.{AllFit, cells_of, reads_all, v_ins, filtered_all, points_all, point_force, no_force, nuts_all, bridge_all, bridge_force}
 use Rattle.keys.specs.declared.KeyConstants.{KeyConstants}
@@ -44,39 +43,31 @@ pub record Bridged (m : Model) (t : ℕ) (v w w' : List Float) (r : Float) : Typ
   pub out : r ≡ bridge_force m.constants.z (bridge_speeds m.constants.yz m.keys m.strings v) v m.strings w +0
 
 -- a hammer that flies back with no string in contact is gone
-abbrev pub hammer_after : Bool → ℕ → Float → Float → HammerState
-hammer_after any key y v = cond any (Flying key y v) (cond (lt v +0) Resting (Flying key y v))
+abbrev pub hammer_after : Bool → Flight → Option Flight
+hammer_after any h = cond any (Some h) (cond (lt h.v_h +0) None (Some h))
 
 -- hammer motion: the force slows the hammer; peak_force changes in contact alone
-unfoldable pub moved : Constants → HammerState → Float → ForceSum → Motion
-moved c Resting peak f = record { hammer = Resting; peak_force = peak }
-moved c (Flying key y v) peak f =
-    let v' = sub binary64 v (div binary64 (mul binary64 c.dt f.force_sum) c.hammer.mass) in
+unfoldable pub moved : Constants → Option Flight → Float → ForceSum → Motion
+moved c None peak f = record { hammer = None; peak_force = peak }
+moved c (Some h) peak f =
+    let v = sub binary64 h.v_h (div binary64 (mul binary64 c.dt f.force_sum) c.hammer.mass) in
+    let y = add binary64 h.y_h (mul binary64 c.dt v) in
     record {
-      hammer = hammer_after f.any_contact key (add binary64 y (mul binary64 c.dt v')) v';
+      hammer = hammer_after f.any_contact (record { key_index = h.key_index; y_h = y; v_h = v });
       peak_force = cond f.any_contact (max_of peak f.force_sum) peak;
     }
 
--- force_trace gets one force for each sample that has a hammer
-unfoldable pub pushed_by : HammerState → Bool
-pushed_by Resting = false
-pushed_by (Flying key y v) = true
-
-abbrev pub forces_of : Bool → Float → List Float
-forces_of true f = f ∷ []
-forces_of false f = []
-
 -- Document 02, W2: "A sample in contact counts for the struck key", the one of the hammer that flies
-unfoldable pub counted_for : HammerState → Bool → List ℕ → List ℕ
-counted_for Resting contact counts = counts
-counted_for (Flying key y v) contact counts = cond contact (raised counts key) counts
+unfoldable pub counted_for : Option Flight → Bool → List ℕ → List ℕ
+counted_for None contact counts = counts
+counted_for (Some h) contact counts = cond contact (raised counts h.key_index) counts
 
 -- there is a count for that key, and one more fits 64 bits
-unfoldable pub CanCount : List ℕ → HammerState → Type 0
-CanCount counts Resting = Unit {0}
-CanCount counts (Flying key y v) = (key < 16) × (get_or counts key 0 + 1 < 2 ^ 64)
+unfoldable pub CanCount : List ℕ → Option Flight → Type 0
+CanCount counts None = Unit {0}
+CanCount counts (Some h) = (h.key_index < 16) × (get_or counts h.key_index 0 + 1 < 2 ^ 64)
 
--- what a sample leaves, its output, the force pushed, one or none, and whether a hammer flew in contact
+-- what a sample leaves, its output, the force pushed, one where a hammer flies and else none, and whether a hammer flew in contact
 pub record Step : Type 0 where
   pub damper_r : List Float
   pub motion : Motion
@@ -87,7 +78,7 @@ pub record Step : Type 0 where
 
 -- that of the code's answer, with the dampers and the cells lent to it
 abbrev pub step_of : Sampled → List Float → List Float → Step
-step_of r R w = record { damper_r = R; motion = r.motion; cells = w; out = r.out; force = forces_of r.pushed r.force; contact = r.contact }
+step_of r R w = record { damper_r = R; motion = r.motion; cells = w; out = r.out; force = option_to_list r.force; contact = r.contact }
 
 -- Sample t after its events, of the dampers' resistances R, the hammer and the cells; `down` says which dampers are to be down.
 unfoldable pub sampled : Model → (ℕ → Bool) → ℕ → List Float → Motion → List Float → Step
@@ -109,6 +100,6 @@ sampled m down t R motion w =
       motion = after;
       cells = bridge_all speeds v ds t nuts;
       out = bridge_force c.z speeds v ds nuts +0;
-      force = forces_of (pushed_by hammer) force.force_sum;
-      contact = pushed_by hammer && force.any_contact;
+      force = option_to_list (option_map (λ _. force.force_sum) hammer);
+      contact = is_some hammer && force.any_contact;
     }

@@ -3,15 +3,15 @@
 
 ghost use Rattle.std.specs.Prelude.{◌≡◌, false, get_or};
 ghost use Rattle.strings.specs.Strings.{Indexed};
-ghost use Rattle.sample.specs.Sample.{Ready, Bridged, CanCount, model_at, sampled, step_of, hammer_after, moved, pushed_by, counted_for};
+ghost use Rattle.sample.specs.Sample.{Ready, Bridged, CanCount, model_at, sampled, step_of, hammer_after, moved, counted_for};
 
 use float::max;
-use points::{Constants, ForceSum, HammerState};
+use points::{Constants, Flight, ForceSum};
 
 // The hammer, if one flies, and the greatest force that it met.
 #[derive(Clone, Copy)]
 pub struct Motion {
-    pub hammer: HammerState,
+    pub hammer: Option<Flight>,
     pub peak_force: f64,
 }
 
@@ -28,8 +28,7 @@ pub struct Setup {
 pub struct Sampled {
     pub motion: Motion,
     pub out: f64,
-    pub pushed: bool,
-    pub force: f64,
+    pub force: Option<f64>,
     pub contact: bool,
 }
 
@@ -67,70 +66,36 @@ fn bridge(
 }
 
 // A hammer that flies back with no string in contact is gone.
-fn hammer_after(any_contact: bool, key_index: usize, y_h: f64, v_h: f64) -> HammerState
-    ensures { result ≡ hammer_after any_contact key_index y_h v_h }
+fn hammer_after(any_contact: bool, h: Flight) -> Option<Flight>
+    ensures { result ≡ hammer_after any_contact h }
 {
     if any_contact {
-        HammerState::Flying {
-            key_index,
-            y_h,
-            v_h,
-        }
+        Some(h)
+    } else if h.v_h < 0.0 {
+        None
     } else {
-        if v_h < 0.0 {
-            HammerState::Resting
-        } else {
-            HammerState::Flying {
-                key_index,
-                y_h,
-                v_h,
-            }
-        }
+        Some(h)
     }
 }
 
 // The hammer's motion under the strings' forces.
+#[tactic(auto, unfolding(crate::specs::Sample::moved))]
 fn move_hammer(c: Constants, motion: Motion, f: ForceSum) -> Motion
     ensures { result ≡ moved c motion.hammer motion.peak_force f }
 {
-    let hammer = c.hammer;
-    let h = motion.hammer;
-    match h {
-        HammerState::Resting => motion,
-        HammerState::Flying {
-            key_index,
-            y_h,
-            v_h,
-        } => {
-            let v = v_h - c.dt * f.force_sum / hammer.mass;
-            let y = y_h + c.dt * v;
-            let after = hammer_after(f.any_contact, key_index, y, v);
-            if f.any_contact {
-                Motion {
-                    hammer: after,
-                    peak_force: max(motion.peak_force, f.force_sum),
-                }
-            } else {
-                Motion {
-                    hammer: after,
-                    peak_force: motion.peak_force,
-                }
-            }
-        }
-    }
-}
-
-// A force is pushed where a hammer flies.
-fn flies(h: HammerState) -> bool
-    ensures { result ≡ pushed_by h }
-{
-    match h {
-        HammerState::Resting => false,
-        HammerState::Flying {
-            key_index,
-            y_h,
-            v_h,
-        } => true,
+    let Some(h) = motion.hammer else {
+        return motion;
+    };
+    let v_h = h.v_h - c.dt * f.force_sum / c.hammer.mass;
+    let y_h = h.y_h + c.dt * v_h;
+    let peak_force = if f.any_contact {
+        max(motion.peak_force, f.force_sum)
+    } else {
+        motion.peak_force
+    };
+    Motion {
+        hammer: hammer_after(f.any_contact, Flight { y_h, v_h, ..h }),
+        peak_force,
     }
 }
 
@@ -188,31 +153,23 @@ pub fn sample(
         setup,
         t,
     );
-    let pushed = flies(h);
     Sampled {
         motion: after,
         out,
-        pushed,
-        force: f.force_sum,
-        contact: pushed & f.any_contact,
+        force: h.map(|_| f.force_sum),
+        contact: h.is_some() & f.any_contact,
     }
 }
 
 // A sample in contact counts for the key of the hammer that flies.
-pub fn count_contact(contact_samples: &mut [u64; 16], h: HammerState, contact: bool)
+#[tactic(auto, unfolding(crate::specs::Sample::CanCount, crate::specs::Sample::counted_for))]
+pub fn count_contact(contact_samples: &mut [u64; 16], h: Option<Flight>, contact: bool)
     requires { CanCount contact_samples.old h }
     ensures { contact_samples.new ≡ counted_for h contact contact_samples.old }
 {
-    match h {
-        HammerState::Resting => {}
-        HammerState::Flying {
-            key_index,
-            y_h,
-            v_h,
-        } => {
-            if contact {
-                contact_samples[key_index] += 1;
-            }
+    if let Some(h) = h {
+        if contact {
+            contact_samples[h.key_index] += 1;
         }
     }
 }

@@ -1,15 +1,14 @@
 -- Document 01, "One sample": what an event does, as in `apply`. "An unknown key does nothing; a strike replaces the one hammer." Definitions only.
 use Rattle.float.specs.Float.{zero as +0}
-use Rattle.std.specs.Prelude.{List, [], ◌∷◌, Bool, true, false, cond, not, ◌&&◌, ◌||◌, ℕ, ◌≤◌, ◌<◌, ◌≡◌, eqb, ltb, length, get_or, set, Float}
+use Rattle.std.specs.Prelude.{List, [], ◌∷◌, Bool, true, false, cond, not, ◌&&◌, ◌||◌, ℕ, ◌≤◌, ◌<◌, ◌≡◌, eqb, ltb, length, get_or, set, Some, unwrap_or, option_map, Float}
 use Rattle.cells.specs.Parts.{map_parts}
 use Rattle.instrument.specs.declared.Instrument.{Instrument}
 use Rattle.instrument.specs.Valid.{key_at}
-use Rattle.instrument.specs.KeyIndex.{key_index}
+use Rattle.instrument.specs.KeyIndex.{key_place}
 use Rattle.string.specs.declared.StringDesign.{StringDesign}
 use Rattle.string.specs.String.{size_of, at_yS, at_memory}
 use Rattle.string.specs.Table.{table_strings}
 use Rattle.strings.specs.Strings.{cells_of}
-use Rattle.points.specs.declared.HammerState.TheVariants.{Flying}
 use Rattle.score.specs.declared.Event.{Event}
 use Rattle.score.specs.declared.Event.TheVariants.{NoteOn, NoteOff, Pedal, HandDamp}
 use Rattle.score.specs.declared.Piano.{Piano}
@@ -37,7 +36,7 @@ struck_key k velocity p = record {
   damper_r = p.damper_r;
   contact_samples = p.contact_samples;
   pedal = p.pedal;
-  motion = record { hammer = Flying k +0 velocity; peak_force = p.motion.peak_force };
+  motion = record { hammer = Some (record { key_index = k; y_h = +0; v_h = velocity }); peak_force = p.motion.peak_force };
 }
 
 unfoldable pub held_to : Bool → ℕ → Piano → Piano
@@ -72,7 +71,7 @@ pedal_to b p = record {
 
 -- f with the index of the key of number x, nothing where there is none
 abbrev pub on_key : Instrument → ℕ → (ℕ → State → State) → State → State
-on_key i x f s = cond (ltb (key_index i.keys 0 i.key_count x) i.key_count) (f (key_index i.keys 0 i.key_count x) s) s
+on_key i x f s = unwrap_or (option_map (λ k. f k s) (key_place i x)) s
 
 -- tables of at most 32 strings, with cells for them, and at most 16 keys
 pub record Playable (i : Instrument) (lengths : List ℕ) (coefficients : List Float) (n : ℕ) (w : List Float) : Type 0 where

@@ -1,6 +1,7 @@
 -- Document 01: "Each timed event holds a position and one of these four." The events that act on sample t are those at t: in a render from silence,
 -- sample by sample, those "whose position is not above t" that have not acted yet are these (`walk_is` in Due.antt, of every sound score `sound_walk` in crate score_edits).
-use Rattle.std.specs.Prelude.{List, [], ◌∷◌, cond, ℕ, ◌≤◌, ◌<◌, eqb, length, take, get_or}
+use Rattle.std.specs.Prelude.{List, [], ◌∷◌, map, filter, cond, ℕ, min, eqb, nat_le, take, Option}
+use Rattle.std.specs.List.{reduce}
 use Rattle.std.specs.Float.{nan}
 use Rattle.score.specs.declared.Event.{Event}
 use Rattle.score.specs.declared.Event.TheVariants.{NoteOn}
@@ -19,6 +20,6 @@ unfoldable pub events_at : List TimedEvent → ℕ → List Event
 events_at [] t = []
 events_at (e ∷ es) t = cond (eqb e.position t) (e.event ∷ events_at es t) (events_at es t)
 
--- no event lies from `from` to before `next`
-pub record NextFrom (es : List TimedEvent) (from next : ℕ) : Type 0 where
-  pub none : (j : ℕ) → j < length es → from ≤ (get_or es j no_event).position → next ≤ (get_or es j no_event).position
+-- the first position, from `from` on, that an event has
+abbrev pub next_from : List TimedEvent → ℕ → Option ℕ
+next_from es from = reduce min (filter (λ p. nat_le from p) (map (λ e. e.position) es))

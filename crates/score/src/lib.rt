@@ -6,11 +6,11 @@ ghost use Rattle.string.specs.String.{size_of};
 ghost use Rattle.string.specs.Table.{table_strings};
 ghost use Rattle.strings.specs.Strings.{cells_of};
 ghost use Rattle.score.specs.Events.{State, is_down, AllDown, cleared, cleared_all, struck_key, held_to, hand_damped, pedal_to, Playable, applied, apply_all};
-ghost use Rattle.score.specs.Score.{events_of, events_at, NextFrom};
+ghost use Rattle.score.specs.Score.{events_at, next_from};
 ghost use Rattle.score.specs.Contacts.{Totals};
 
 use instrument::{Instrument, key_index};
-use points::HammerState;
+use points::Flight;
 use sample::Motion;
 use string::StringDesign;
 
@@ -44,13 +44,6 @@ pub struct Piano {
     pub contact_samples: [u64; 16],
     pub pedal: bool,
     pub motion: Motion,
-}
-
-// The contact samples of an instrument's keys, added up: whether they are at most a limit, and where they are, their sum.
-#[derive(Clone, Copy)]
-pub struct Total {
-    pub within: bool,
-    pub sum: u64,
 }
 
 // A string of key k forgets its contact.
@@ -87,95 +80,49 @@ fn clear_strings(
 }
 
 // The piano with key k struck: the one hammer is replaced.
-fn strike_key(piano: Piano, k: usize, velocity: f64) -> Piano
+#[tactic(auto, unfolding(crate::specs::Events::struck_key))]
+fn strike_key(mut piano: Piano, k: usize, velocity: f64) -> Piano
     requires { k < 16 }
     ensures { result ≡ struck_key k velocity piano }
 {
-    let mut held = piano.held;
-    let mut hand_damped = piano.hand_damped;
-    let damper_r = piano.damper_r;
-    let contact_samples = piano.contact_samples;
-    let motion = piano.motion;
-    held[k] = true;
-    hand_damped[k] = false;
-    let hammer = HammerState::Flying {
+    piano.held[k] = true;
+    piano.hand_damped[k] = false;
+    piano.motion.hammer = Some(Flight {
         key_index: k,
         y_h: 0.0,
         v_h: velocity,
-    };
-    let after = Motion {
-        hammer: hammer,
-        peak_force: motion.peak_force,
-    };
-    Piano {
-        held: held,
-        hand_damped: hand_damped,
-        damper_r: damper_r,
-        contact_samples: contact_samples,
-        pedal: piano.pedal,
-        motion: after,
-    }
+    });
+    piano
 }
 
-fn release_key(piano: Piano, k: usize) -> Piano
+#[tactic(auto, unfolding(crate::specs::Events::held_to))]
+fn release_key(mut piano: Piano, k: usize) -> Piano
     requires { k < 16 }
     ensures { result ≡ held_to false k piano }
 {
-    let mut held = piano.held;
-    let hand_damped = piano.hand_damped;
-    let damper_r = piano.damper_r;
-    let contact_samples = piano.contact_samples;
-    let motion = piano.motion;
-    held[k] = false;
-    Piano {
-        held: held,
-        hand_damped: hand_damped,
-        damper_r: damper_r,
-        contact_samples: contact_samples,
-        pedal: piano.pedal,
-        motion: motion,
-    }
+    piano.held[k] = false;
+    piano
 }
 
-fn hand_damp_key(piano: Piano, k: usize) -> Piano
+#[tactic(auto, unfolding(crate::specs::Events::hand_damped))]
+fn hand_damp_key(mut piano: Piano, k: usize) -> Piano
     requires { k < 16 }
     ensures { result ≡ hand_damped k piano }
 {
-    let held = piano.held;
-    let mut hand_damped = piano.hand_damped;
-    let damper_r = piano.damper_r;
-    let contact_samples = piano.contact_samples;
-    let motion = piano.motion;
-    hand_damped[k] = true;
-    Piano {
-        held: held,
-        hand_damped: hand_damped,
-        damper_r: damper_r,
-        contact_samples: contact_samples,
-        pedal: piano.pedal,
-        motion: motion,
-    }
+    piano.hand_damped[k] = true;
+    piano
 }
 
-fn move_pedal(piano: Piano, down: bool) -> Piano
+#[tactic(auto, unfolding(crate::specs::Events::pedal_to))]
+fn move_pedal(mut piano: Piano, down: bool) -> Piano
     ensures { result ≡ pedal_to down piano }
 {
-    let held = piano.held;
-    let hand_damped = piano.hand_damped;
-    let damper_r = piano.damper_r;
-    let contact_samples = piano.contact_samples;
-    let motion = piano.motion;
-    Piano {
-        held: held,
-        hand_damped: hand_damped,
-        damper_r: damper_r,
-        contact_samples: contact_samples,
-        pedal: down,
-        motion: motion,
-    }
+    piano.pedal = down;
+    piano
 }
 
 // One event.
+#[tactic(auto, unfolding(crate::specs::Events::applied))]
 fn apply(
     part: &mut [f64],
     lengths: &[usize; 160],
@@ -190,32 +137,22 @@ fn apply(
         ≡ applied instrument (table_strings lengths.now coefficients.now n) event (record { piano = piano; cells = part.old }) }
 {
     match event {
-        Event::NoteOn { key, velocity } => {
-            let k = key_index(instrument, key);
-            if k < instrument.key_count {
+        Event::NoteOn { key, velocity } => match key_index(instrument, key) {
+            Some(k) => {
                 clear_strings(part, lengths, coefficients, n, k);
                 strike_key(piano, k, velocity)
-            } else {
-                piano
             }
-        }
-        Event::NoteOff { key } => {
-            let k = key_index(instrument, key);
-            if k < instrument.key_count {
-                release_key(piano, k)
-            } else {
-                piano
-            }
-        }
+            None => piano,
+        },
+        Event::NoteOff { key } => match key_index(instrument, key) {
+            Some(k) => release_key(piano, k),
+            None => piano,
+        },
         Event::Pedal(down) => move_pedal(piano, down),
-        Event::HandDamp { key } => {
-            let k = key_index(instrument, key);
-            if k < instrument.key_count {
-                hand_damp_key(piano, k)
-            } else {
-                piano
-            }
-        }
+        Event::HandDamp { key } => match key_index(instrument, key) {
+            Some(k) => hand_damp_key(piano, k),
+            None => piano,
+        },
     }
 }
 
@@ -226,48 +163,32 @@ pub fn apply_events(
     coefficients: &[f64; 128],
     n: usize,
     instrument: Instrument,
-    score: Score,
+    events: &[TimedEvent],
     piano: Piano,
     t: u64,
 ) -> Piano
-    requires playable { Playable instrument lengths.now coefficients.now n part.old }
-    requires count_bound { score.count ≤ 64 }
+    requires { Playable instrument lengths.now coefficients.now n part.old }
     ensures { record { piano = result; cells = part.new }
-        ≡ apply_all instrument (table_strings lengths.now coefficients.now n) (events_at (events_of score) t) (record { piano = piano; cells = part.old }) }
+        ≡ apply_all instrument (table_strings lengths.now coefficients.now n) (events_at events.now t) (record { piano = piano; cells = part.old }) }
 {
     let mut p = piano;
-    for i in 0..score.count {
-        let e = score.events[i];
+    for e in events {
         if e.position == t {
-            let event = e.event;
-            p = apply(part, lengths, coefficients, n, instrument, p, event);
+            p = apply(part, lengths, coefficients, n, instrument, p, e.event);
         }
     }
     p
 }
 
-// The sooner of two positions, where the second counts from `from` on.
-fn sooner(next: u64, position: u64, from: u64) -> u64
-    ensures { (result ≤ next) × (from ≤ position → result ≤ position) }
+// The first position, from `from` on, where an event lies: the samples up to it need not look at the score.
+pub fn next_event(events: &[TimedEvent], from: u64) -> Option<u64>
+    ensures { result ≡ next_from events.now from }
 {
-    if position < from {
-        next
-    } else {
-        if position < next { position } else { next }
-    }
-}
-
-// A position before which, from `from` on, no event lies: the samples up to it need not look at the score.
-pub fn next_event(score: Score, from: u64) -> u64
-    requires { score.count ≤ 64 }
-    ensures { NextFrom (events_of score) from result }
-{
-    let mut next = 0xffff_ffff_ffff_ffffu64;
-    for i in 0..score.count {
-        let e = score.events[i];
-        next = sooner(next, e.position, from);
-    }
-    next
+    events
+        .iter()
+        .map(|e| e.position)
+        .filter(|position| *position >= from)
+        .min()
 }
 
 // Which keys' dampers are to be down; it changes with events alone.
@@ -275,30 +196,18 @@ pub fn dampers_down(instrument: Instrument, piano: Piano) -> [bool; 16]
     requires { instrument.key_count ≤ 16 }
     ensures { AllDown instrument piano result }
 {
-    let mut down = [false; 16];
-    let held = piano.held;
-    let hand_damped = piano.hand_damped;
-    for k in 0..instrument.key_count {
-        let d = instrument.keys[k];
-        down[k] = d.has_damper & (hand_damped[k] | !(held[k] | piano.pedal));
-    }
-    down
+    std::array::from_fn(|k| {
+        instrument.keys[k].has_damper & (piano.hand_damped[k] | !(piano.held[k] | piano.pedal))
+    })
 }
 
-// The sum over so many keys, of which the first 16 can have a count, against a limit. No count is added that passes what is left of the limit, so that none can make the sum wrap.
-pub fn contacts(counts: [u64; 16], keys: usize, limit: u64) -> Total
+// The sum over so many keys, of which the first 16 can have a count; none where it passes the limit.
+pub fn contacts(counts: [u64; 16], keys: usize, limit: u64) -> Option<u64>
     ensures { Totals keys counts limit result }
 {
-    let n = if keys < 16 { keys } else { 16 };
-    let mut within = true;
-    let mut sum = 0;
-    for k in 0..n {
-        let count = counts[k];
-        if count <= limit - sum {
-            sum += count;
-        } else {
-            within = false;
-        }
+    let mut sum = 0u64;
+    for count in &counts[..keys.min(16)] {
+        sum = sum.checked_add(*count)?;
     }
-    Total { within, sum }
+    if sum <= limit { Some(sum) } else { None }
 }

@@ -1,4 +1,4 @@
--- The loops that move the later events by one: after j of them a list pasted into the array (`lib.Seq.paste`). Assumes nothing.
+-- The later events copied up or down by one, and the score with an event placed or removed. Assumes nothing.
 use mathlib.Core.Path.{◌≡◌, refl, sym, ◌∙◌, ap}
 use mathlib.Core.Bool.{Bool, true, false, cond}
 use mathlib.Core.List.{List, [], ◌∷◌, ◌++◌}
@@ -6,10 +6,12 @@ use Prim.Native.Nat.{ℕ, zero, suc, ◌+◌, ◌-◌, ◌<◌, ◌≤◌}
 use native.Mathlib.Omega.{arith}
 use native.Mathlib.Nat.{add-sub_of_le}
 use native.Mathlib.Numerals.{add-one}
-use lib.ListN.{length, take, drop, get_or, set, length-drop, length-set}
-use lib.Seq.{get_or-drop, length-take-le, paste, paste-zero, paste-suc, take-suc-set, take-take, take-add, drop_at, drop-set-lt, append_snoc}
+use lib.ListN.{length, take, drop, set, length-drop}
+use lib.Seq.{length-take-le, take-suc-set, take-take, take-add, drop_at, drop-set-lt, append_snoc}
+use borrow.Rule.Slice.PartMut.{put_mid}
+use Rattle.std.proofs.lemmas.List.{take_all}
+use Rattle.std.proofs.lemmas.Slice.{put_mid-paste}
 use Rattle.score.specs.declared.TimedEvent.{TimedEvent}
-use Rattle.score.specs.Score.{no_event}
 use Rattle.score_edits.specs.Edits.{may_precede, placed, place_of, removed}
 
 placed_if : (b : Bool) (x e : TimedEvent) (xs : List TimedEvent) (k : ℕ)
@@ -31,47 +33,33 @@ removed_split (x ∷ xs) (suc k) h = ap (λ y. x ∷ y) (removed_split xs k (ome
 drop_take : (l : List TimedEvent) (k n : ℕ) → k ≤ n → n ≤ length l → drop k (take n l) ≡ take (n - k) (drop k l)
 drop_take l k n h g =
     let e : k + (n - k) ≡ n = add-sub_of_le h in
-    ap (λ m. drop k (take m l)) (sym e) ∙ ap (drop k) (take-add k (n - k) l) ∙ drop_at (take k l) (take (n - k) (drop k l)) k (length-take-le k l (omega arith))
+    ap (λ m. drop k (take m l)) (sym e) ∙ ap (drop k) (take-add k (n - k) l)
+    ∙ drop_at (take k l) (take (n - k) (drop k l)) k (length-take-le k l (omega arith))
 
--- up by one, behind an event put at place k of the first n
-module _ (l : List TimedEvent) (n k : ℕ) (e : TimedEvent) (fits : length l ≡ 64) (few : n < 64) (low : k ≤ n) where
-  pub up_none : set l k e ≡ paste (set l k e) (k + 1) (drop k l) 0
-  up_none = paste-zero (set l k e) (k + 1) (drop k l)
+-- the later events of the first n copied up by one, behind an event put at its place
+pub event_placed : (l : List TimedEvent) (n k : ℕ) (e : TimedEvent) (later : List TimedEvent) → length l ≡ 64 → n < 64 → k ≤ n → k ≡ place_of (take n l) e
+    → later ≡ take (n - k) (drop k l) → put_mid (k + 1) (n + 1 - (k + 1)) (set l k e) later ≡ placed (take n l) e ++ drop (n + 1) l
+event_placed l n k e later fits few low p q =
+    let a : k + 1 + (n - k) ≡ n + 1 = omega arith in
+    let long : n - k ≡ length (drop k (take n l)) = omega (arith, length-drop k (take n l), length-take-le n l (omega arith)) in
+    let b : take (k + 1) (set l k e) ≡ take k l ++ (e ∷ []) = rw add-one (take-suc-set l k e (omega arith)) in
+    let c : take (n - k) (drop k (take n l)) ≡ drop k (take n l) = take_all (n - k) (drop k (take n l)) (omega (arith, long)) in
+    let d : drop (k + 1 + (n - k)) (set l k e) ≡ drop (n + 1) l = ap (λ m. drop m (set l k e)) a ∙ drop-set-lt (n + 1) l k e (omega arith) in
+    let f : take k l ++ e ∷ drop k (take n l) ≡ placed (take n l) e =
+    ap (λ x. x ++ e ∷ drop k (take n l)) (sym (take-take k n l low)) ∙ ap (λ x. take x (take n l) ++ e ∷ drop x (take n l)) p ∙ sym (placed_split (take n l) e) in
+    put_mid-paste (k + 1) (n + 1 - (k + 1)) (set l k e) later (drop k (take n l)) (n - k) (q ∙ sym (drop_take l k n low (omega arith))) (omega arith) long
+    ∙ rw (b, c, d) (ap (λ x. x ++ drop (n + 1) l) (append_snoc (take k l) e (drop k (take n l)) ∙ f))
 
-  pub up_turn : (out : List TimedEvent) (j : ℕ) → j < n - k → out ≡ paste (set l k e) (k + 1) (drop k l) j
-      → set out (k + 1 + j) (get_or l (k + j) no_event) ≡ paste (set l k e) (k + 1) (drop k l) (j + 1)
-  up_turn out j h inv =
-      rw (inv, ← (get_or-drop k l j no_event), add-one j)
-      (paste-suc (set l k e) (k + 1) (drop k l) j no_event (omega (arith, length-set l k e)) (omega (arith, length-drop k l)))
-
-  pub up_done : (out : List TimedEvent) (j : ℕ) → j ≡ n - k → out ≡ paste (set l k e) (k + 1) (drop k l) j → k ≡ place_of (take n l) e
-      → out ≡ placed (take n l) e ++ drop (n + 1) l
-  up_done out j q inv p =
-      let a : k + 1 + j ≡ n + 1 = omega arith in
-      let b : take (k + 1) (set l k e) ≡ take k l ++ (e ∷ []) = rw add-one (take-suc-set l k e (omega arith)) in
-      let c : take j (drop k l) ≡ drop k (take n l) = ap (λ m. take m (drop k l)) q ∙ sym (drop_take l k n low (omega arith)) in
-      let d : drop (k + 1 + j) (set l k e) ≡ drop (n + 1) l = ap (λ m. drop m (set l k e)) a ∙ drop-set-lt (n + 1) l k e (omega arith) in
-      let f : take k l ++ e ∷ drop k (take n l) ≡ placed (take n l) e =
-      ap (λ x. x ++ e ∷ drop k (take n l)) (sym (take-take k n l low)) ∙ ap (λ x. take x (take n l) ++ e ∷ drop x (take n l)) p ∙ sym (placed_split (take n l) e) in
-      inv ∙ rw (b, c, d) (ap (λ x. x ++ drop (n + 1) l) (append_snoc (take k l) e (drop k (take n l)) ∙ f))
-
--- down by one, over the event at place k of the first n
-module _ (l : List TimedEvent) (n k : ℕ) (fits : length l ≡ 64) (few : n ≤ 64) (low : k < n) where
-  pub down_none : l ≡ paste l k (drop (k + 1) l) 0
-  down_none = paste-zero l k (drop (k + 1) l)
-
-  pub down_turn : (out : List TimedEvent) (j : ℕ) → j < n - 1 - k → out ≡ paste l k (drop (k + 1) l) j
-      → set out (k + j) (get_or l (k + 1 + j) no_event) ≡ paste l k (drop (k + 1) l) (j + 1)
-  down_turn out j h inv =
-      rw (inv, ← (get_or-drop (k + 1) l j no_event), add-one j)
-      (paste-suc l k (drop (k + 1) l) j no_event (omega arith) (omega (arith, length-drop (k + 1) l)))
-
-  pub down_done : (out : List TimedEvent) (j : ℕ) → j ≡ n - 1 - k → out ≡ paste l k (drop (k + 1) l) j → out ≡ removed (take n l) k ++ drop (n - 1) l
-  down_done out j q inv =
-      let a : k + j ≡ n - 1 = omega arith in
-      let b : take j (drop (k + 1) l) ≡ drop (suc k) (take n l) =
-      let m : j ≡ n - suc k = omega arith in
-      rw add-one (ap (λ x. take x (drop (suc k) l)) m ∙ sym (drop_take l (suc k) n (omega arith) (omega arith))) in
-      let c : take k l ++ drop (suc k) (take n l) ≡ removed (take n l) k =
-      ap (λ x. x ++ drop (suc k) (take n l)) (sym (take-take k n l (omega arith))) ∙ sym (removed_split (take n l) k (omega (arith, length-take-le n l (omega arith)))) in
-      inv ∙ rw (a, b) (ap (λ x. x ++ drop (n - 1) l) c)
+-- the later events of the first n copied down by one, over the event at place k
+pub event_removed : (l : List TimedEvent) (n k : ℕ) (later : List TimedEvent) → length l ≡ 64 → n ≤ 64 → k < n
+    → later ≡ take (n - (k + 1)) (drop (k + 1) l) → put_mid k (n - 1 - k) l later ≡ removed (take n l) k ++ drop (n - 1) l
+event_removed l n k later fits few low q =
+    let a : k + (n - (k + 1)) ≡ n - 1 = omega arith in
+    let rest = drop (k + 1) (take n l) in
+    let long : n - (k + 1) ≡ length rest = omega (arith, length-drop (k + 1) (take n l), length-take-le n l (omega arith)) in
+    let b : take (n - (k + 1)) rest ≡ rest = take_all (n - (k + 1)) rest (omega (arith, long)) in
+    let c : take k l ++ rest ≡ removed (take n l) k =
+    ap (λ x. x ++ rest) (sym (take-take k n l (omega arith))) ∙ ap (λ m. take k (take n l) ++ drop m (take n l)) (add-one k)
+    ∙ sym (removed_split (take n l) k (omega (arith, length-take-le n l (omega arith)))) in
+    put_mid-paste k (n - 1 - k) l later rest (n - (k + 1)) (q ∙ sym (drop_take l (k + 1) n (omega arith) (omega arith))) (omega arith) long
+    ∙ rw (b, a) (ap (λ x. x ++ drop (n - 1) l) c)

@@ -1,145 +1,98 @@
--- The loops over the slots: what each keeps, over the slots that are still to come. Assumes nothing.
-use mathlib.Core.Path.{◌≡◌, refl, sym, ◌∙◌}
-use mathlib.Core.Bool.{Bool, true, false, cond, not, ◌&&◌}
-use mathlib.Core.List.{List, [], ◌∷◌, map}
-use Prim.Native.Nat.{ℕ, suc, ◌+◌, ◌<◌, ◌≤◌, max}
-use native.Mathlib.Omega.{arith}
-use native.Mathlib.Numerals.{add-one}
-use lib.Dec.{leb, ltb}
-use borrow.Author.Tests.{lt-ltb, le-ltb, ltb-true, ltb-false}
-use lib.ListN.{length, take, drop, get_or, set, drop_of_length-le, length-drop, length-map, get_or-map}
-use lib.Seq.{drop-cons, take-suc, take-suc-set, take_all}
-use lib.Ieee.{nan}
-use Rattle.points.specs.declared.HammerState.TheVariants.{Resting}
+-- What the library's chains over the slots find, in the words of the set of positions. Assumes nothing.
+use Rattle.std.specs.Prelude.{◌≡◌, refl, Bool, true, false, cond, not, ◌&&◌, ◌||◌, List, [], ◌∷◌, ◌++◌, map, take, drop, set, get_or, ℕ, zero, suc, ◌<◌, ◌+◌, max, leb, ltb, length, filter, fold, position, Option, None, Some}
+use Rattle.std.specs.Option.{is_some}
+use Rattle.std.specs.List.{count_by, reduce}
+use Rattle.std.specs.Option.{option_map, unwrap_or}
+use Rattle.std.proofs.lemmas.List.{length-append, length-map, length-take, length-drop, get_or_default}
+use Rattle.std.proofs.lemmas.List.Edits.{map_over_more}
+use Rattle.std.proofs.lemmas.List.Sums.{length-filter}
+use Rattle.std.proofs.Common.{sym, ◌∙◌, ap, arith}
 use Rattle.positions.specs.Positions.{count, is_in, above, up_to, greatest}
-use Rattle.positions.specs.Laws.{count_if}
+use Rattle.positions.specs.Laws.{true_or_false}
 use Rattle.session_cues.specs.declared.Cue.{Cue}
-use Rattle.session_cues.specs.Cues.{kept_of, stands_at, slot_at, free_slot, nearer, lost_of, sound_cue, sound_cues, sound_cues_to}
+use Rattle.session_cues.specs.Cues.{kept_of, stands_at, slot_at, sound_cue, sound_cues, sound_cues_to}
 use Rattle.session_cues.specs.Laws.{slot_in}
 
-and_assoc : (a b c : Bool) → ((a && b) && c) ≡ (a && (b && c))
-and_assoc true b c = refl
-and_assoc false b c = refl
-
-and_end : (a : Bool) → (a && true) ≡ a
-and_end true = refl
-and_end false = refl
-
--- the greatest so far, with one member more that is there or not
-max_step : (k b : Bool) (best x rest : ℕ) → max (cond (k && b && ltb best x) x best) rest ≡ max best (cond (k && b) (max x rest) rest)
-max_step k b best x rest = go (k && b) (ltb best x) refl
+count_lost : (q : ℕ) (cs : List Cue) → length (filter (λ (c : Cue). c.kept && ltb q c.position) cs) ≡ above q (kept_of cs)
+unfolding kept_of count
+count_lost q [] = refl
+count_lost q (c ∷ cs) = go c.kept (ltb q c.position) refl (count_lost q cs)
   where
-    go : (a c : Bool) → ltb best x ≡ c → max (cond (a && c) x best) rest ≡ max best (cond a (max x rest) rest)
-    go true true e = omega (arith, ltb-true best x e)
-    go true false e = omega (arith, ltb-false best x e)
-    go false c e = refl
+    go : (k b : Bool) → ltb q c.position ≡ b → length (filter (λ (c : Cue). c.kept && ltb q c.position) cs) ≡ above q (kept_of cs)
+        → length (cond (k && b) (c ∷ filter (λ (c : Cue). c.kept && ltb q c.position) cs) (filter (λ (c : Cue). c.kept && ltb q c.position) cs))
+        ≡ above q (cond k (c.position ∷ kept_of cs) (kept_of cs))
+    go true true e ih = rw e (ap suc ih)
+    go true false e ih = rw e ih
+    go false b e ih = ih
 
-greatest_if : (k : Bool) (p x : ℕ) (l : List ℕ) → greatest (up_to p (cond k (x ∷ l) l)) ≡ cond (k && leb x p) (max x (greatest (up_to p l))) (greatest (up_to p l))
-unfolding up_to greatest
-greatest_if true p x l = go (leb x p)
+-- the positions kept in the slots, up to p
+pub kept_to_is : (p : ℕ) (cs : List Cue) → map (λ (c : Cue). c.position) (filter (λ (c : Cue). c.kept && leb c.position p) cs) ≡ up_to p (kept_of cs)
+unfolding kept_of up_to
+kept_to_is p [] = refl
+kept_to_is p (c ∷ cs) = go c.kept (leb c.position p) refl (kept_to_is p cs)
   where
-    go : (b : Bool) → greatest (cond b (x ∷ up_to p l) (up_to p l)) ≡ cond b (max x (greatest (up_to p l))) (greatest (up_to p l))
-    go true = refl
-    go false = refl
-greatest_if false p x l = refl
+    go : (k b : Bool) → leb c.position p ≡ b → map (λ (c : Cue). c.position) (filter (λ (c : Cue). c.kept && leb c.position p) cs) ≡ up_to p (kept_of cs)
+        → map (λ (c : Cue). c.position) (cond (k && b) (c ∷ filter (λ (c : Cue). c.kept && leb c.position p) cs) (filter (λ (c : Cue). c.kept && leb c.position p) cs))
+        ≡ up_to p (cond k (c.position ∷ kept_of cs) (kept_of cs))
+    go true true e ih = rw e (ap (λ l. c.position ∷ l) ih)
+    go true false e ih = rw e ih
+    go false b e ih = ih
 
-lost_is : (q : ℕ) (c : Cue) → above q (cond c.kept (c.position ∷ []) []) ≡ lost_of q c
-unfolding count
-lost_is q c = go c.kept
+-- the greatest of 0 and some numbers, as the library reduces a list
+fold_greatest : (a : ℕ) (l : List ℕ) → fold max a l ≡ max a (greatest l)
+unfolding greatest
+fold_greatest a [] = omega arith
+fold_greatest a (x ∷ xs) = omega (arith, fold_greatest (max a x) xs)
+
+pub greatest_is : (r : Option ℕ) (l : List ℕ) → option_map (λ x. x) r ≡ reduce max l → unwrap_or r 0 ≡ greatest l
+unfolding greatest
+greatest_is None [] e = refl
+greatest_is (Some r) [] e = absurd (let z : ⊥ = cc in z)
+greatest_is None (x ∷ xs) e = absurd (let z : ⊥ = cc in z)
+greatest_is (Some r) (x ∷ xs) e = let z : r ≡ fold max x xs = cc in z ∙ fold_greatest x xs
+
+-- one slot more of those that a loop writes
+pub map_turn : (f : Cue → Cue) (xs ys : List Cue) (i : ℕ) (d : Cue) → i < length xs → ys ≡ map f (take i xs) ++ drop i xs
+    → set ys i (f (get_or ys i d)) ≡ map f (take (i + 1) xs) ++ drop (i + 1) xs
+map_turn f xs ys i d h e =
+    map_over_more f xs ys i (get_or ys i d) h e (get_or_default ys i d (get_or ys i d) (omega (arith, ap length e, simp (length-append, length-map, length-take, length-drop) at (ap length e))))
+
+pub lost_is : (q : ℕ) (cs : List Cue) → count_by (λ (c : Cue). c.kept && ltb q c.position) cs ≡ above q (kept_of cs)
+lost_is q cs = sym (length-filter (λ (c : Cue). c.kept && ltb q c.position) cs) ∙ count_lost q cs
+
+-- whether a search found a slot says whether the position is kept
+pub found_is : (x : ℕ) (cs : List Cue) → is_some (position (stands_at x) cs) ≡ is_in x (kept_of cs)
+found_is x cs = go (ltb (slot_at x cs) (length cs)) refl ∙ slot_in x cs
   where
-    go : (b : Bool) → above q (cond b (c.position ∷ []) []) ≡ cond (b && ltb q c.position) 1 0
-    go true = refl
-    go false = refl
+    go : (b : Bool) → ltb (slot_at x cs) (length cs) ≡ b → is_some (position (stands_at x) cs) ≡ ltb (slot_at x cs) (length cs)
+    go true e = rw e
+    go false e = rw e
 
--- whether a slot from `first` on keeps x
-pub kept_from : (cs : List Cue) (first x r : ℕ) → first ≤ length cs → r ≡ first + slot_at x (drop first cs) → ltb r (length cs) ≡ is_in x (kept_of (drop first cs))
-kept_from cs first x r h e = go (ltb (slot_at x (drop first cs)) (length (drop first cs))) refl ∙ slot_in x (drop first cs)
-  where
-    go : (b : Bool) → ltb (slot_at x (drop first cs)) (length (drop first cs)) ≡ b → ltb r (length cs) ≡ ltb (slot_at x (drop first cs)) (length (drop first cs))
-    go true k = lt-ltb r (length cs) (omega (arith, length-drop first cs, ltb-true (slot_at x (drop first cs)) (length (drop first cs)) k)) ∙ sym k
-    go false k = le-ltb r (length cs) (omega (arith, length-drop first cs, ltb-false (slot_at x (drop first cs)) (length (drop first cs)) k)) ∙ sym k
-
--- the cue that a read past the slots would give
-abbrev pub no_cue : Cue
-no_cue =
-    record {
-      kept = false;
-      position = 0;
-      piano = record { held = []; hand_damped = []; damper_r = []; contact_samples = []; pedal = false; motion = record { hammer = Resting; peak_force = nan } };
-    }
-
--- one slot
-module _ (cs : List Cue) (i : ℕ) (d : Cue) (more : i < length cs) where
-  left_cons : drop i cs ≡ get_or cs i d ∷ drop (suc i) cs
-  left_cons = drop-cons cs i d more
-
-  pub slot_turn : (x whole : ℕ) → stands_at x (get_or cs i d) ≡ false → i + slot_at x (drop i cs) ≡ whole → i + 1 + slot_at x (drop (i + 1) cs) ≡ whole
-  unfolding slot_at
-  slot_turn x whole h inv = let k = rw (left_cons, h) at inv in rw add-one (omega (arith, k))
-
-  pub slot_here : (x whole : ℕ) → stands_at x (get_or cs i d) ≡ true → i + slot_at x (drop i cs) ≡ whole → i ≡ whole
-  unfolding slot_at
-  slot_here x whole h inv = let k = rw (left_cons, h) at inv in omega (arith, k)
-
-  pub free_turn : (whole : ℕ) → (get_or cs i d).kept ≡ true → i + free_slot (drop i cs) ≡ whole → i + 1 + free_slot (drop (i + 1) cs) ≡ whole
-  unfolding free_slot
-  free_turn whole h inv = let k = rw (left_cons, h) at inv in rw add-one (omega (arith, k))
-
-  pub free_here : (whole : ℕ) → (get_or cs i d).kept ≡ false → i + free_slot (drop i cs) ≡ whole → i ≡ whole
-  unfolding free_slot
-  free_here whole h inv = let k = rw (left_cons, h) at inv in omega (arith, k)
-
-  pub nearest_turn : (p best best' whole : ℕ) → best' ≡ nearer p best (get_or cs i d) → max best (greatest (up_to p (kept_of (drop i cs)))) ≡ whole
-      → max best' (greatest (up_to p (kept_of (drop (i + 1) cs)))) ≡ whole
-  unfolding kept_of
-  nearest_turn p best best' whole e inv =
-      let c = get_or cs i d in
-      let rest = kept_of (drop (suc i) cs) in
-      let k = rw (left_cons, greatest_if c.kept p c.position rest) at inv in
-      rw (add-one, e) (max_step c.kept (leb c.position p) best c.position (greatest (up_to p rest)) ∙ k)
-
-  pub lost_turn : (q n lost whole : ℕ) → lost ≡ lost_of q (get_or cs i d) → n + above q (kept_of (drop i cs)) ≡ whole → n + lost + above q (kept_of (drop (i + 1) cs)) ≡ whole
-  unfolding kept_of
-  lost_turn q n lost whole e inv =
-      let c = get_or cs i d in
-      let rest = kept_of (drop (suc i) cs) in
-      let k = rw (left_cons, count_if (ltb q) c.kept c.position rest) at inv in
-      rw add-one (omega (arith, k, lost_is q c))
-
-  pub sound_turn : (keys : ℕ) (sound alone again whole : Bool) → alone ≡ sound_cue keys (get_or cs i d) → again ≡ is_in (get_or cs i d).position (kept_of (drop (i + 1) cs))
-      → (sound && sound_cues keys (drop i cs)) ≡ whole → ((sound && (alone && not ((get_or cs i d).kept && again))) && sound_cues keys (drop (i + 1) cs)) ≡ whole
+-- the test of the first slot left, and what it leaves to the later ones
+module _ (keys : ℕ) (left : List Cue) (c : Cue) (cs : List Cue) (e : left ≡ c ∷ cs)
+    (alone again : Bool) (ea : alone ≡ sound_cue keys c) (eg : again ≡ is_in c.position (kept_of cs)) where
+  sound_if : sound_cues keys left ≡ ((alone && not (c.kept && again)) && sound_cues keys cs)
   unfolding sound_cues_to
-  sound_turn keys sound alone again whole ea eg inv = rw (eg, ea, add-one) (and_assoc sound _ _ ∙ (rw left_cons at inv))
+  sound_if = rw (e, ea, eg)
 
-  pub map_turn : (f : Cue → Cue) (out : List Cue) (c : Cue) → c ≡ f (get_or cs i d) → length out ≡ length cs → take i out ≡ take i (map f cs)
-      → take (i + 1) (set out i c) ≡ take (i + 1) (map f cs)
-  map_turn f out c e long inv =
-      rw (add-one, take-suc-set out i c (omega arith), inv, e, ← (get_or-map f cs i d)) (sym (take-suc (map f cs) i (f d) (omega (arith, length-map cs f))))
+  pub wrong_here : (c.kept && again || not alone) ≡ true → false ≡ sound_cues keys left
+  wrong_here h = sym (sound_if ∙ go alone (c.kept && again) h)
+    where
+      go : (a b : Bool) → (b || not a) ≡ true → ((a && not b) && sound_cues keys cs) ≡ false
+      go true true h = refl
+      go true false h = true_or_false false h refl
+      go false b h = refl
 
--- none is left
-module _ (cs : List Cue) (i : ℕ) (done : length cs ≤ i) where
-  left_none : drop i cs ≡ []
-  left_none = drop_of_length-le cs {i = i} done
+  pub sound_here : (c.kept && again || not alone) ≡ false → sound_cues keys cs ≡ sound_cues keys left
+  sound_here h = sym (sound_if ∙ go alone (c.kept && again) h)
+    where
+      go : (a b : Bool) → (b || not a) ≡ false → ((a && not b) && sound_cues keys cs) ≡ sound_cues keys cs
+      go true false h = refl
+      go true true h = true_or_false true refl h
+      go false true h = true_or_false true refl h
+      go false false h = true_or_false true refl h
 
-  pub slot_end : (x whole : ℕ) → i + slot_at x (drop i cs) ≡ whole → i ≡ whole
-  unfolding slot_at
-  slot_end x whole inv = let k = rw left_none at inv in omega (arith, k)
-
-  pub free_end : (whole : ℕ) → i + free_slot (drop i cs) ≡ whole → i ≡ whole
-  unfolding free_slot
-  free_end whole inv = let k = rw left_none at inv in omega (arith, k)
-
-  pub nearest_end : (p best whole : ℕ) → max best (greatest (up_to p (kept_of (drop i cs)))) ≡ whole → best ≡ whole
-  unfolding kept_of up_to greatest
-  nearest_end p best whole inv = let k = rw left_none at inv in omega (arith, k)
-
-  pub lost_end : (q n whole : ℕ) → n + above q (kept_of (drop i cs)) ≡ whole → n ≡ whole
-  unfolding kept_of count
-  lost_end q n whole inv = let k = rw left_none at inv in omega (arith, k)
-
-  pub sound_end : (keys : ℕ) (sound whole : Bool) → (sound && sound_cues keys (drop i cs)) ≡ whole → sound ≡ whole
-  unfolding sound_cues_to
-  sound_end keys sound whole inv = sym (and_end sound) ∙ (rw left_none at inv)
-
-  pub map_end : (f : Cue → Cue) (out : List Cue) → length out ≡ length cs → take i out ≡ take i (map f cs) → out ≡ map f cs
-  map_end f out long inv = sym (take_all i out (omega arith)) ∙ inv ∙ take_all i (map f cs) (omega (arith, length-map cs f))
+pub none_left : (keys : ℕ) (left : List Cue) → length left ≡ 0 → true ≡ sound_cues keys left
+unfolding sound_cues_to
+none_left keys [] h = refl
+none_left keys (c ∷ cs) h = absurd (omega arith)

@@ -1,6 +1,7 @@
 -- Document 01, "The session": the kept cues, as four slots in order. Refusal 7: "a session with .. a cue above the end of 11, .. over four cues or two equal, a hammer on a key not
 -- there, a contact count above its position", which is now a sum over keys. Over four cannot be written down here. Definitions only: assumes nothing.
-use Rattle.std.specs.Prelude.{Bool, true, cond, not, ◌&&◌, ◌||◌, List, [], ◌∷◌, ℕ, suc, eqb, leb, ltb}
+use Rattle.std.specs.Prelude.{Bool, true, cond, not, ◌&&◌, ◌||◌, List, [], ◌∷◌, ℕ, eqb, leb, ltb}
+use Rattle.std.specs.List.{position_or_len}
 use Rattle.score.specs.declared.Piano.{Piano}
 use Rattle.score.specs.Contacts.{contacts_of, hammer_on}
 use Rattle.positions.specs.Positions.{end, is_in}
@@ -15,13 +16,14 @@ kept_of (c ∷ cs) = cond c.kept (c.position ∷ kept_of cs) (kept_of cs)
 abbrev pub stands_at : ℕ → Cue → Bool
 stands_at x c = c.kept && eqb x c.position
 
-unfoldable pub slot_at : ℕ → List Cue → ℕ
-slot_at x [] = 0
-slot_at x (c ∷ cs) = cond (stands_at x c) 0 (suc (slot_at x cs))
+abbrev pub is_free : Cue → Bool
+is_free c = not c.kept
 
-unfoldable pub free_slot : List Cue → ℕ
-free_slot [] = 0
-free_slot (c ∷ cs) = cond c.kept (suc (free_slot cs)) 0
+abbrev pub slot_at : ℕ → List Cue → ℕ
+slot_at x cs = position_or_len (stands_at x) cs
+
+abbrev pub free_slot : List Cue → ℕ
+free_slot cs = position_or_len is_free cs
 
 -- "Both edits drop cues above q": what was held for it stays in the slot, and decides nothing
 abbrev pub drop_above : ℕ → Cue → Cue
@@ -49,11 +51,3 @@ sound_cue keys c = sound_cue_to end keys c
 
 abbrev pub sound_cues : ℕ → List Cue → Bool
 sound_cues keys cs = sound_cues_to end keys cs
-
--- ---- one slot's part in a search and in a count
-
-abbrev pub nearer : ℕ → ℕ → Cue → ℕ
-nearer p best c = cond (c.kept && leb c.position p && ltb best c.position) c.position best
-
-abbrev pub lost_of : ℕ → Cue → ℕ
-lost_of q c = cond (c.kept && ltb q c.position) 1 0

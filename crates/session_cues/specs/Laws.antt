@@ -1,14 +1,15 @@
 -- Laws of the slots: what they keep as a set of positions, and what a passed test says of each. Assumes nothing.
-use Rattle.std.specs.Prelude.{◌≡◌, refl, Bool, true, false, cond, not, ◌&&◌, ◌||◌, List, [], ◌∷◌, map, ℕ, zero, suc, ◌<◌, ◌≤◌, eqb, leb, ltb, length, get_or, set}
-use Rattle.std.proofs.Common.{sym, ◌∙◌, arith, lt-ltb, le-leb, eqb-true, leb-true}
+use Rattle.std.specs.Prelude.{◌≡◌, refl, Bool, true, false, cond, not, ◌&&◌, ◌||◌, List, [], ◌∷◌, map, ℕ, zero, suc, ◌+◌, ◌<◌, ◌≤◌, eqb, leb, ltb, length, get_or, set}
+use Rattle.std.proofs.Common.{sym, ◌∙◌, one-add, arith, lt-ltb, le-leb, eqb-true, leb-true}
 use Rattle.std.proofs.Math.Dec.{leb-suc-suc}
 use Rattle.std.proofs.lemmas.Bool.{not-true}
+use Rattle.std.proofs.lemmas.List.Sums.{passes_at_first}
 use Rattle.score.specs.declared.Piano.{Piano}
 use Rattle.score.specs.Contacts.{contacts_of, hammer_on}
 use Rattle.positions.specs.Positions.{end, count, is_in, up_to, distinct, Same}
 use Rattle.positions.specs.Laws.{and_true, and_both, true_or_false, count_swap, in_front, in_cons, in_none}
 use Rattle.session_cues.specs.declared.Cue.{Cue}
-use Rattle.session_cues.specs.Cues.{kept_of, stands_at, slot_at, free_slot, drop_above, sound_piano, sound_cue, sound_cue_to, sound_cues, sound_cues_to}
+use Rattle.session_cues.specs.Cues.{kept_of, stands_at, is_free, slot_at, free_slot, drop_above, sound_piano, sound_cue, sound_cue_to, sound_cues, sound_cues_to}
 
 -- ---- what the slots keep
 
@@ -31,26 +32,26 @@ in_if t x true l = go (eqb t x)
     go false = refl
 in_if t x false l = refl
 
+below_next : (a b : ℕ) → ltb (1 + a) (suc b) ≡ ltb a b
+below_next a b = rw (one-add a) (leb-suc-suc (suc a) b)
+
 pub slot_in : (x : ℕ) (cs : List Cue) → ltb (slot_at x cs) (length cs) ≡ is_in x (kept_of cs)
-unfolding slot_at kept_of
+unfolding kept_of
 slot_in x [] = sym (in_none x)
 slot_in x (c ∷ cs) = go (stands_at x c) (slot_in x cs) ∙ sym (in_if x c.position c.kept (kept_of cs))
   where
-    go : (b : Bool) → ltb (slot_at x cs) (length cs) ≡ is_in x (kept_of cs) → ltb (cond b 0 (suc (slot_at x cs))) (suc (length cs)) ≡ cond b true (is_in x (kept_of cs))
+    go : (b : Bool) → ltb (slot_at x cs) (length cs) ≡ is_in x (kept_of cs)
+        → ltb (cond (not b) (1 + slot_at x cs) 0) (suc (length cs)) ≡ cond b true (is_in x (kept_of cs))
     go true e = lt-ltb 0 (suc (length cs)) (omega arith)
-    go false e = leb-suc-suc (suc (slot_at x cs)) (length cs) ∙ e
+    go false e = below_next (slot_at x cs) (length cs) ∙ e
 
 -- the slot found keeps the position
-pub slot_kept : (x : ℕ) (cs : List Cue) (d : Cue) → slot_at x cs < length cs → ((get_or cs (slot_at x cs) d).kept ≡ true) × ((get_or cs (slot_at x cs) d).position ≡ x)
-unfolding slot_at
-slot_kept x [] d h = absurd (omega arith)
-slot_kept x (c ∷ cs) d h = go (stands_at x c) refl h (slot_kept x cs d)
-  where
-    go : (b : Bool) → stands_at x c ≡ b → cond b 0 (suc (slot_at x cs)) < suc (length cs)
-        → (slot_at x cs < length cs → ((get_or cs (slot_at x cs) d).kept ≡ true) × ((get_or cs (slot_at x cs) d).position ≡ x))
-        → ((get_or (c ∷ cs) (cond b 0 (suc (slot_at x cs))) d).kept ≡ true) × ((get_or (c ∷ cs) (cond b 0 (suc (slot_at x cs))) d).position ≡ x)
-    go true e k ih = let p = and_true c.kept (eqb x c.position) e in (p.0, sym (eqb-true x c.position p.1))
-    go false e k ih = ih (omega arith)
+pub slot_kept : (x : ℕ) (cs : List Cue) (d : Cue) → slot_at x cs < length cs
+    → ((get_or cs (slot_at x cs) d).kept ≡ true) × ((get_or cs (slot_at x cs) d).position ≡ x)
+slot_kept x cs d h =
+    let c = get_or cs (slot_at x cs) d in
+    let p = and_true c.kept (eqb x c.position) (passes_at_first (stands_at x) cs d h) in
+    (p.0, sym (eqb-true x c.position p.1))
 
 -- a kept slot's position is kept
 pub kept_in : (cs : List Cue) (j : ℕ) (d : Cue) → j < length cs → (get_or cs j d).kept ≡ true → is_in (get_or cs j d).position (kept_of cs) ≡ true
@@ -66,33 +67,17 @@ kept_in (c ∷ cs) (suc j) d h k = go c.kept (kept_in cs j d (omega arith) k)
 -- ---- the free slot
 
 pub free_slot_free : (cs : List Cue) (d : Cue) → free_slot cs < length cs → (get_or cs (free_slot cs) d).kept ≡ false
-unfolding free_slot
-free_slot_free [] d h = absurd (omega arith)
-free_slot_free (c ∷ cs) d h = go c.kept refl h (free_slot_free cs d)
-  where
-    go : (b : Bool) → c.kept ≡ b → cond b (suc (free_slot cs)) 0 < suc (length cs) → (free_slot cs < length cs → (get_or cs (free_slot cs) d).kept ≡ false)
-        → (get_or (c ∷ cs) (cond b (suc (free_slot cs)) 0) d).kept ≡ false
-    go true e k ih = ih (omega arith)
-    go false e k ih = e
+free_slot_free cs d h = not-true (get_or cs (free_slot cs) d).kept (passes_at_first is_free cs d h)
 
 -- no slot is free where as many are kept as there are, and only there
-pub free_slot_few : (cs : List Cue) → free_slot cs ≤ length cs
-unfolding free_slot
-free_slot_few [] = omega arith
-free_slot_few (c ∷ cs) = go c.kept (free_slot_few cs)
-  where
-    go : (b : Bool) → free_slot cs ≤ length cs → cond b (suc (free_slot cs)) 0 ≤ suc (length cs)
-    go true h = omega arith
-    go false h = omega arith
-
 pub free_slot_full : (cs : List Cue) → ltb (free_slot cs) (length cs) ≡ ltb (length (kept_of cs)) (length cs)
-unfolding free_slot kept_of
+unfolding kept_of
 free_slot_full [] = refl
 free_slot_full (c ∷ cs) = go c.kept (free_slot_full cs) (kept_length cs)
   where
     go : (b : Bool) → ltb (free_slot cs) (length cs) ≡ ltb (length (kept_of cs)) (length cs) → length (kept_of cs) ≤ length cs
-        → ltb (cond b (suc (free_slot cs)) 0) (suc (length cs)) ≡ ltb (length (cond b (c.position ∷ kept_of cs) (kept_of cs))) (suc (length cs))
-    go true e h = leb-suc-suc (suc (free_slot cs)) (length cs) ∙ e ∙ sym (leb-suc-suc (suc (length (kept_of cs))) (length cs))
+        → ltb (cond (not (not b)) (1 + free_slot cs) 0) (suc (length cs)) ≡ ltb (length (cond b (c.position ∷ kept_of cs) (kept_of cs))) (suc (length cs))
+    go true e h = below_next (free_slot cs) (length cs) ∙ e ∙ sym (leb-suc-suc (suc (length (kept_of cs))) (length cs))
     go false e h = lt-ltb 0 (suc (length cs)) (omega arith) ∙ sym (lt-ltb (length (kept_of cs)) (suc (length cs)) (omega arith))
 
 -- a cue put into a free slot is one member more

@@ -1,7 +1,9 @@
-// Document 01, "Numbers a call may give": the session's record, its test in refusal 7, and for each call the refusals that concern it, in their order.
+// Document 01, "Numbers a call may give": the session's record, its test in refusal 7, and for each call the refusals that concern
+// it, in their order.
 #![tactic(auto)]
 
-ghost use Rattle.std.specs.Prelude.{◌≡◌, true, ◌+◌, ◌≤◌, length};
+ghost use Rattle.std.specs.Prelude.{◌≡◌, true, ◌≤◌};
+ghost use Rattle.refusal.specs.Refusal.{number_in};
 ghost use Rattle.instrument.specs.Valid.{valid};
 ghost use Rattle.instrument.specs.Work.{part_cells};
 ghost use Rattle.machine.specs.Refusals.{scratch_cells};
@@ -11,6 +13,7 @@ ghost use Rattle.session_record.specs.Record.{sound_session, work_test, open_ref
 ghost use Rattle.session_record.specs.Record.{play_number, cue_number, go_number, insert_number, remove_number};
 
 use instrument::Instrument;
+use refusal::Refusal;
 use score::{Piano, TimedEvent};
 use score_edits::END;
 use session_cues::Cue;
@@ -25,42 +28,18 @@ pub struct Session {
     pub piano: Piano,
 }
 
-const RECORD: u64 = 7;
-
-const WORK: u64 = 8;
-
-const SCRATCH: u64 = 9;
-
-const TRACE: u64 = 10;
-
-const PAST_END: u64 = 11;
-
-const SCORE_FULL: u64 = 12;
-
-const VELOCITY: u64 = 13;
-
-const NO_EVENT: u64 = 14;
-
-const CUES_FULL: u64 = 15;
-
-const REPLAY: u64 = 16;
-
 // The longest go.
 const LONGEST: u64 = 1000000;
 
-fn is_sound_session(keys: usize, session: Session) -> bool
-    ensures { result ≡ sound_session keys session }
+fn is_sound_session(keys: usize, session: &Session) -> bool
+    ensures { result ≡ sound_session keys session.now }
 {
-    let count = session.count;
-    if 64 < count {
+    if 64 < session.count {
         return false;
     }
-    let events = session.events;
-    let in_score = score_edits::is_sound_score(events, count);
-    let piano = session.piano;
-    let now = session_cues::is_sound_piano(keys, session.t, piano);
-    let slots = session.cues;
-    let kept = session_cues::are_sound(keys, slots);
+    let in_score = score_edits::is_sound_score(&session.events[..session.count]);
+    let now = session_cues::is_sound_piano(keys, session.t, session.piano);
+    let kept = session_cues::are_sound(keys, &session.cues);
     (session.t <= END) & in_score & now & kept
 }
 
@@ -73,36 +52,40 @@ pub fn part_size(instrument: Instrument) -> usize
 }
 
 // Work memory is five parts.
-fn work_refusal(instrument: Instrument, cells: usize) -> u64
+fn work_refusal(instrument: Instrument, cells: usize) -> Result<(), Refusal>
     requires { valid instrument ≡ true }
-    ensures { result ≡ work_test instrument cells }
+    ensures { number_in result ≡ work_test instrument cells }
 {
     if cells < 5 * part_size(instrument) {
-        WORK
-    } else {
-        0
+        return Err(Refusal::Work);
     }
+    Ok(())
 }
 
-pub fn open_refusal(instrument: Instrument, cells: usize) -> u64
-    ensures { result ≡ open_refusal instrument cells }
+pub fn open_refusal(instrument: Instrument, cells: usize) -> Result<(), Refusal>
+    ensures { number_in result ≡ open_refusal instrument cells }
 {
-    if instrument::is_valid(instrument) {
-        return work_refusal(instrument, cells);
+    if !instrument::is_valid(instrument) {
+        return Err(Refusal::Record);
     }
-    RECORD
+    work_refusal(instrument, cells)
 }
 
 // 7 and 8, with which every call on a session begins, and which are all that energies tests.
-pub fn record_refusal(instrument: Instrument, session: Session, cells: usize) -> u64
-    ensures { result ≡ record_refusal instrument session cells }
+pub fn record_refusal(
+    instrument: Instrument,
+    session: Session,
+    cells: usize,
+) -> Result<(), Refusal>
+    ensures { number_in result ≡ record_refusal instrument session cells }
 {
-    if instrument::is_valid(instrument) {
-        if is_sound_session(instrument.key_count, session) {
-            return work_refusal(instrument, cells);
-        }
+    if !instrument::is_valid(instrument) {
+        return Err(Refusal::Record);
     }
-    RECORD
+    if !is_sound_session(instrument.key_count, &session) {
+        return Err(Refusal::Record);
+    }
+    work_refusal(instrument, cells)
 }
 
 // How many scratch cells play and go ask: what a player must lend is what refusal 9 tests.
@@ -119,54 +102,42 @@ pub fn play_refusal(
     scratch: usize,
     m: usize,
     trace: usize,
-) -> u64
-    ensures { result ≡ play_number instrument session cells scratch m trace }
+) -> Result<(), Refusal>
+    ensures { number_in result ≡ play_number instrument session cells scratch m trace }
 {
-    let refusal = record_refusal(instrument, session, cells);
-    if refusal != 0 {
-        return refusal;
-    }
+    record_refusal(instrument, session, cells)?;
     if scratch < scratch_cells(instrument) {
-        return SCRATCH;
+        return Err(Refusal::Scratch);
     }
     if trace < m {
-        return TRACE;
+        return Err(Refusal::Trace);
     }
     if END - session.t < m as u64 {
-        return PAST_END;
+        return Err(Refusal::PastEnd);
     }
-    0
+    Ok(())
 }
 
 // Where fewer than four other cues are kept, t is kept already or a slot is free.
-pub fn cue_refusal(instrument: Instrument, session: Session, cells: usize) -> u64
-    ensures { result ≡ cue_number instrument session cells }
+pub fn cue_refusal(instrument: Instrument, session: Session, cells: usize) -> Result<(), Refusal>
+    ensures { number_in result ≡ cue_number instrument session cells }
 {
-    let refusal = record_refusal(instrument, session, cells);
-    if refusal != 0 {
-        return refusal;
+    record_refusal(instrument, session, cells)?;
+    if session_cues::slot_at(&session.cues, session.t).is_some() {
+        return Ok(());
     }
-    let slots = session.cues;
-    if session_cues::slot_at(slots, 0, session.t) < 4 {
-        return 0;
+    if session_cues::free_slot(&session.cues).is_some() {
+        return Ok(());
     }
-    if session_cues::free_slot(slots) < 4 {
-        return 0;
-    }
-    CUES_FULL
+    Err(Refusal::CuesFull)
 }
 
 // Where a go to p starts: the greatest of 0, the kept cues and t, of those not above p.
 pub fn start_of(session: Session, p: u64) -> u64
-    ensures { (result ≡ start_of session.t (kept_of session.cues) p) × (result ≤ p) × (length session.cues ≡ 4) }
+    ensures { (result ≡ start_of session.t (kept_of session.cues) p) × (result ≤ p) }
 {
-    let slots = session.cues;
-    let near = session_cues::nearest(slots, p);
-    if (session.t <= p) & (near < session.t) {
-        session.t
-    } else {
-        near
-    }
+    let near = session_cues::nearest(&session.cues, p);
+    if session.t <= p { near.max(session.t) } else { near }
 }
 
 // Where t stands after an edit at q.
@@ -174,8 +145,7 @@ pub fn settle(session: Session, q: u64) -> u64
     ensures { result ≡ settled session.t (kept_of session.cues) q }
 {
     if q < session.t {
-        let slots = session.cues;
-        session_cues::nearest(slots, q)
+        session_cues::nearest(&session.cues, q)
     } else {
         session.t
     }
@@ -187,23 +157,20 @@ pub fn go_refusal(
     cells: usize,
     scratch: usize,
     p: u64,
-) -> u64
-    ensures { result ≡ go_number instrument session cells scratch p }
+) -> Result<(), Refusal>
+    ensures { number_in result ≡ go_number instrument session cells scratch p }
 {
-    let refusal = record_refusal(instrument, session, cells);
-    if refusal != 0 {
-        return refusal;
-    }
+    record_refusal(instrument, session, cells)?;
     if scratch < scratch_cells(instrument) {
-        return SCRATCH;
+        return Err(Refusal::Scratch);
     }
     if END < p {
-        return PAST_END;
+        return Err(Refusal::PastEnd);
     }
     if LONGEST < p - start_of(session, p) {
-        return REPLAY;
+        return Err(Refusal::Replay);
     }
-    0
+    Ok(())
 }
 
 pub fn insert_refusal(
@@ -211,35 +178,33 @@ pub fn insert_refusal(
     session: Session,
     cells: usize,
     timed: TimedEvent,
-) -> u64
-    ensures { result ≡ insert_number instrument session cells timed }
+) -> Result<(), Refusal>
+    ensures { number_in result ≡ insert_number instrument session cells timed }
 {
-    let refusal = record_refusal(instrument, session, cells);
-    if refusal != 0 {
-        return refusal;
-    }
+    record_refusal(instrument, session, cells)?;
     if END < timed.position {
-        return PAST_END;
+        return Err(Refusal::PastEnd);
     }
     if 64 <= session.count {
-        return SCORE_FULL;
+        return Err(Refusal::ScoreFull);
     }
-    let event = timed.event;
-    if score_edits::is_sound_velocity(event) {
-        return 0;
+    if !score_edits::is_sound_velocity(timed.event) {
+        return Err(Refusal::Velocity);
     }
-    VELOCITY
+    Ok(())
 }
 
-pub fn remove_refusal(instrument: Instrument, session: Session, cells: usize, index: usize) -> u64
-    ensures { result ≡ remove_number instrument session cells index }
+pub fn remove_refusal(
+    instrument: Instrument,
+    session: Session,
+    cells: usize,
+    index: usize,
+) -> Result<(), Refusal>
+    ensures { number_in result ≡ remove_number instrument session cells index }
 {
-    let refusal = record_refusal(instrument, session, cells);
-    if refusal != 0 {
-        return refusal;
-    }
+    record_refusal(instrument, session, cells)?;
     if session.count <= index {
-        return NO_EVENT;
+        return Err(Refusal::NoEvent);
     }
-    0
+    Ok(())
 }

@@ -1,6 +1,6 @@
 -- The bound of a contact's force (document 02, W6) summed over the strings: rounding keeps the order, so the forces' sum is at most the bounds', both added up string by
 -- string from +0. Definitions, and the law.
-use Rattle.std.specs.Prelude.{List, ℕ, T, Float}
+use Rattle.std.specs.Prelude.{Option, List, ℕ, T, Float}
 use Rattle.std.proofs.Math.ListN.{get_or}
 use Rattle.std.specs.Float.{nan}
 use Rattle.std.specs.Float.Ieee.{binary64, add, le}
@@ -16,27 +16,27 @@ use Rattle.string.specs.declared.StringDesign.{StringDesign}
 use Rattle.string.specs.declared.Reads.{Reads}
 use Rattle.string.specs.String.{size_of, at_yS, at_memory}
 use Rattle.points.specs.declared.Constants.{Constants}
-use Rattle.points.specs.declared.HammerState.{HammerState}
+use Rattle.points.specs.declared.Flight.{Flight}
 use Rattle.points.specs.declared.ForceSum.{ForceSum}
 use Rattle.points.specs.Points.{c1_of, contact_at, summed}
 use Rattle.points.specs.Bound.{top_at, contact_bound}
 use Rattle.strings.specs.Strings.{unread, no_force, point_force, point_force_one}
 
 -- each string's bound, with its sign clear, summed from a in the strings' order
-abbrev pub point_bound_one : Constants → HammerState → List Reads → ℕ → StringDesign → List Float → Float → Float
+abbrev pub point_bound_one : Constants → Option Flight → List Reads → ℕ → StringDesign → List Float → Float → Float
 point_bound_one c h v i d p b = add binary64 b (positive_part (top_at c h d (get_or v i unread) p))
 
-abbrev pub point_bound : Constants → HammerState → List StringDesign → List Reads → List Float → Float → Float
+abbrev pub point_bound : Constants → Option Flight → List StringDesign → List Reads → List Float → Float → Float
 point_bound c h ds v w a = fold_parts size_of (point_bound_one c h v) 0 ds w a
 
 -- the rounded c0 / c1 of each string that the hammer is at is at most half the largest f64
-abbrev pub TopFits : Constants → HammerState → List Reads → ℕ → StringDesign → List Float → Type 0
+abbrev pub TopFits : Constants → Option Flight → List Reads → ℕ → StringDesign → List Float → Type 0
 TopFits c h v i d p = T (le (top_at c h d (get_or v i unread) p) half_max)
 
-abbrev pub TopsFit : Constants → HammerState → List StringDesign → List Reads → List Float → Type 0
+abbrev pub TopsFit : Constants → Option Flight → List StringDesign → List Reads → List Float → Type 0
 TopsFit c h ds v w = Each size_of (TopFits c h v) 0 ds w
 
-module _ (c : Constants) (h : HammerState) (ds : List StringDesign) (v : List Reads) (w : List Float) (q : T (positive (c1_of c))) where
+module _ (c : Constants) (h : Option Flight) (ds : List StringDesign) (v : List Reads) (w : List Float) (q : T (positive (c1_of c))) where
   -- the sum of the forces so far is not negative, and at most that of the bounds
   abbrev Under : ForceSum → Float → Type 0
   Under s b = T (nonneg s.force_sum) × T (nonneg b) × T (le s.force_sum b)

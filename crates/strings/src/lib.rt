@@ -6,7 +6,7 @@ ghost use Rattle.string.specs.Table.{table_strings};
 ghost use Rattle.strings.specs.Strings.{AllFit, Indexed, cells_of, turned_all, force_all, no_force, bridge_all, bridge_force};
 ghost use Rattle.float.specs.Float.{zero};
 
-use points::{Constants, ForceSum, HammerState};
+use points::{Constants, Flight, ForceSum};
 
 // The indices of n strings' lines at sample t, three a string, each by a division: once for a stretch of samples.
 pub fn first_indices(
@@ -51,7 +51,7 @@ pub fn next_indices(
 pub fn strike_strings(
     part: &mut [f64],
     c: Constants,
-    h: HammerState,
+    hammer: Option<Flight>,
     damper_r: &[f64; 16],
     lengths: &[usize; 160],
     coefficients: &[f64; 128],
@@ -62,8 +62,8 @@ pub fn strike_strings(
     requires all_fit { AllFit lengths.now coefficients.now n }
     requires indexed { Indexed lengths.now coefficients.now indices.now n t }
     requires n_in_bounds { cells_of (table_strings lengths.now coefficients.now n) ≤ length part.old }
-    ensures { (part.new ≡ turned_all c h damper_r.now (table_strings lengths.now coefficients.now n) t part.old)
-        × (result ≡ force_all c h (table_strings lengths.now coefficients.now n) t part.old no_force) }
+    ensures { (part.new ≡ turned_all c hammer damper_r.now (table_strings lengths.now coefficients.now n) t part.old)
+        × (result ≡ force_all c hammer (table_strings lengths.now coefficients.now n) t part.old no_force) }
 {
     let mut at = 0usize;
     let mut sum = ForceSum {
@@ -75,7 +75,7 @@ pub fn strike_strings(
         let e = at + string::size(d);
         let x = string::indices_at(indices, i);
         let k = d.key;
-        let f = points::strike_string(&mut part[at..e], c, h, d, damper_r[k], x, t);
+        let f = points::strike_string(&mut part[at..e], c, hammer, d, damper_r[k], x, t);
         sum = points::add_force(sum, f);
         at = e;
     }

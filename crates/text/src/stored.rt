@@ -31,7 +31,9 @@ pub fn row(text: &[u8], n: u64) -> &[u8] {
     let mut rest = text;
     for _ in 0..n {
         let feed = rest.iter().position(|b| *b == b'\n').unwrap_or(rest.len());
-        rest = part(rest, feed, rest.len()).strip_prefix(b"\n").unwrap_or(b"");
+        rest = part(rest, feed, rest.len())
+            .strip_prefix(b"\n")
+            .unwrap_or(b"");
     }
     let feed = rest.iter().position(|b| *b == b'\n').unwrap_or(rest.len());
     part(rest, 0, feed)

@@ -1,14 +1,15 @@
--- `energies::line_energy` meets its contract. The invariant: what is left to add gives the line's energy. Assumes nothing.
-use mathlib.Core.Path.{refl}
-use native.Mathlib.Omega.{arith}
-use Rattle.energies.proofs.Sums.{summed_start, summed_turn, summed_end}
+-- `energies::line_energy` meets its contract: the fold adds the cells' squares one by one. Assumes nothing.
+use mathlib.Core.Path.{◌≡◌, ◌∙◌}
+use borrow.Author.Rules.{rules}
+use lib.Ieee.{binary64, add}
+use Rattle.std.specs.List.{fold}
+use Rattle.float.specs.Float.{zero as +0}
+use Rattle.energies.specs.Energy.{square}
+use Rattle.energies.proofs.Sums.{squares_added}
 use Rattle.energies.proofs.line_energy.Goals as goal
 
-pub loop-i-init : goal.loop-i-init
-loop-i-init c = (refl, summed_start _)
-
-pub loop-i-preserved : goal.loop-i-preserved
-loop-i-preserved c = (refl, summed_turn _ c.loop-i.sum c.loop-i.i c.loop-i.invariant.1 c.loop-i-test.true)
-
 pub returns : goal.returns
-returns c = summed_end _ c.loop-i.sum c.loop-i.i c.loop-i.invariant.1 (omega arith)
+returns c =
+    let l = c.args.line.now in
+    let folded : c.fold.result ≡ fold (λ s v. add binary64 s (square v)) +0 l = search rules in
+    folded ∙ squares_added +0 l

@@ -1,13 +1,9 @@
 -- `energies::pairs_of` meets its contract. The invariant: the pairs below k are in place, and zeros after them. Assumes nothing.
 use mathlib.Core.Path.{◌≡◌}
-use Prim.Native.Nat.{◌-◌, ◌≤◌}
 use Rattle.counting.specs.Below.{pad, tabulate}
 use Rattle.energies.specs.Energy.{no_energy}
 use Rattle.energies.specs.Steps.{pair_of}
 use Rattle.energies.proofs.pairs_of.Given as goal
 
 abbrev pub invariant-loop-k : goal.invariant-loop-k
-invariant-loop-k l = (l.k-end ≡ l.instrument.key_count) × (l.k ≤ l.k-end) × (l.pairs ≡ pad 16 no_energy (tabulate l.k (pair_of l.instrument l.sums)))
-
-abbrev pub decreases-loop-k : goal.decreases-loop-k
-decreases-loop-k l = l.k-end - l.k
+invariant-loop-k l = l.pairs ≡ pad 16 no_energy (tabulate l.k (pair_of l.instrument l.sums))

@@ -1,15 +1,12 @@
--- The invariant: the keys before i are in place, and zeros after them. Start, turn and end are laws of proofs/Filled.antt.
-use mathlib.Core.Path.{ap, ◌∙◌}
+-- The first n places hold the keys, and those behind them zeros.
 use native.Mathlib.Omega.{arith}
-use Rattle.instrument_fields.specs.Fields.{key_of}
-use Rattle.instrument_file.proofs.Filled.{keys_none, keys_next, keys_all}
+use lib.ListN.{replicate}
+use Rattle.std.proofs.lemmas.List.{length-take-le}
+use Rattle.instrument_fields.specs.Unused.{no_key}
+use Rattle.instrument_file.specs.File.{keys_in}
+use Rattle.instrument_file.proofs.Filled.{front_filled}
 use Rattle.instrument_file.proofs.keys_of.Goals as goal
 
-pub loop-i-init : goal.loop-i-init
-loop-i-init c = keys_none c.no_key-unused.ensures
-
-pub loop-i-preserved : goal.loop-i-preserved
-loop-i-preserved c = keys_next c.loop-i.invariant (omega arith) (omega arith) (c.read_key.ensures ∙ ap key_of c.section_at.ensures)
-
 pub returns : goal.returns
-returns c = keys_all c.loop-i.invariant c.loop-i-test.false
+unfolding keys_in
+returns c = front_filled _ no_key _ 16 c.args.n _ _ c.read_keys.ensures (length-take-le c.args.n (replicate 16 c.no_key-out.result) c.requires) c.no_key-out.ensures

@@ -1,10 +1,7 @@
--- The invariant: the strings of the keys before i are in place, m of them, and zeros after them. Start, turn and end are laws of proofs/Filled.antt.
-use Prim.Native.Nat.{◌-◌}
+-- The invariant: the strings of the keys before k are in place, m of them, and zeros after them. Start, turn and end are laws of proofs/Filled.antt.
+use Rattle.std.proofs.Common.{◌≡◌, take}
 use Rattle.instrument_file.proofs.Filled.{StringsFilled}
 use Rattle.instrument_file.proofs.strings_of.Given as goal
 
-abbrev pub invariant-loop-i : goal.invariant-loop-i
-invariant-loop-i l = StringsFilled l.f l.n l.keys l.out l.m l.i
-
-abbrev pub decreases-loop-i : goal.decreases-loop-i
-decreases-loop-i l = l.n - l.i
+abbrev pub invariant-loop-k : goal.invariant-loop-k
+invariant-loop-k l = (l.k-end ≡ l.n) × (l.used ≡ take l.n l.fn.keys) × StringsFilled l.f l.n l.fn.keys l.out l.m l.k

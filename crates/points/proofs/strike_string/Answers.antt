@@ -22,6 +22,6 @@ returns c =
     let reads = c.read_string-r.ensures in
     let touch = rw (c.at_y_s-y.ensures, c.at_memory-m.ensures) at c.feel-touch.ensures in
     let cells = rw (c.at_y_s-y.ensures, c.at_memory-m.ensures) at c.write_string.ensures in (
-      ap (λ (x : Contact). x.force) touch ∙ ap (λ (r : Reads). (contact_at at.c at.h at.d r at.part.now).force) reads,
+      ap (λ (x : Contact). x.force) touch ∙ ap (λ (r : Reads). (contact_at at.c at.hammer at.d r at.part.now).force) reads,
       rw (← reads, ← touch, ← c.inject-inject_d.ensures) cells,
     )

@@ -2,22 +2,20 @@
 -- scratch have as many cells as before; the indices are those of the next sample's position. Assumes nothing.
 use mathlib.Core.Path.{◌≡◌}
 use mathlib.Core.Bool.{false}
-use Prim.Native.Nat.{◌+◌, ◌-◌}
+use Prim.Native.Nat.{◌+◌, ◌≤◌}
 use lib.ListN.{length, get_or}
 use Rattle.strings.specs.Strings.{Indexed}
 use Rattle.sample.specs.Sample.{model_at}
 use Rattle.render.specs.Render.{Advanced, InRange, stepped, rendering_of}
-use Rattle.render.proofs.Runs.{run_of}
 use Rattle.render.proofs.play_stretch.Given as goal
 
 abbrev pub invariant-loop-done : goal.invariant-loop-done
-invariant-loop-done l =
-    Advanced (stepped (model_at l.setup l.table l.lengths l.coefficients) (λ k. get_or l.down k false)) l.t
-    (rendering_of (run_of l.piano l.initial.damper_r l.initial.contact_samples l.initial.motion l.initial.done l.initial.pushed) l.initial.part l.initial.out l.initial.trace)
-    (rendering_of (run_of l.piano l.damper_r l.contact_samples l.motion l.done l.pushed) l.part l.out l.trace)
-    × InRange l.setup.keys (run_of l.piano l.damper_r l.contact_samples l.motion l.done l.pushed) l.t l.stop
-    × (length l.part ≡ length l.initial.part) × (length l.scratch ≡ length l.initial.scratch)
-    × Indexed l.lengths l.coefficients l.indices l.setup.strings (l.t + l.done)
-
-abbrev pub decreases-loop-done : goal.decreases-loop-done
-decreases-loop-done l = l.stop - l.done
+invariant-loop-done l = record {
+  advanced : Advanced (stepped (model_at l.setup l.table l.lengths l.coefficients) (λ k. get_or l.down k false)) l.t
+      (rendering_of (record { piano = l.initial.piano; done = l.initial.done; pushed = l.initial.pushed }) l.initial.part l.initial.out l.initial.trace)
+      (rendering_of (record { piano = l.piano; done = l.done; pushed = l.pushed }) l.part l.out l.trace);
+  in_range : InRange l.setup.keys (record { piano = l.piano; done = l.done; pushed = l.pushed }) l.t l.stop;
+  part : length l.part ≡ length l.initial.part;
+  scratch : length l.scratch ≡ length l.initial.scratch;
+  indexed : Indexed l.lengths l.coefficients l.indices l.setup.strings (l.t + l.done);
+}

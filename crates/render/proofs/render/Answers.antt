@@ -22,21 +22,21 @@ string_tables-tables-requires c =
 
 pub loop-run-init : goal.loop-run-init
 loop-run-init c =
-    let at = c.args in (
-      advanced_start at.t (unstarted at.piano at.part.now at.out.now at.trace.now),
-      record { below = omega arith; end = c.requires.m_bound; piano = rw (add-zero at.t) c.requires.piano_at; pushes = omega arith },
-      refl,
-      refl,
-    )
+    let at = c.args in
+    record {
+      advanced = advanced_start at.t (unstarted at.piano at.part.now at.out.now at.trace.now);
+      in_range = record { below = omega arith; end = c.requires.m_bound; piano = rw (add-zero at.t) c.requires.piano_at; pushes = omega arith };
+      part = refl;
+      scratch = refl;
+    }
 
 pub next_stretch-stretch-requires : goal.next_stretch-stretch-requires
 next_stretch-stretch-requires c =
     let asked = c.requires in
     let strung = c.string_tables-tables.ensures in
     record {
-      playable = tables_playable asked.renderable strung c.loop-run.part c.loop-run.invariant.2;
+      playable = tables_playable asked.renderable strung c.loop-run.part c.loop-run.invariant.part;
       strings_filled = strung;
-      count_bound = asked.count_bound;
       done_lt_m = c.loop-run-test.true;
       m_bound = asked.m_bound;
     }
@@ -48,8 +48,8 @@ play_stretch-run-requires c =
     let strung = c.string_tables-tables.ensures in
     let next = c.next_stretch-stretch in
     record {
-      ready = stretch_ready can strung next.ensures here.scratch (next.auto.part ∙ here.invariant.2) here.invariant.3;
-      in_range = stretch_in_range can strung next.ensures here.invariant.1;
+      ready = stretch_ready can strung next.ensures here.scratch (next.auto.part ∙ here.invariant.part) here.invariant.scratch;
+      in_range = stretch_in_range can strung next.ensures here.invariant.in_range;
     }
 
 pub loop-run-smaller : goal.loop-run-smaller
@@ -63,26 +63,27 @@ loop-run-preserved c =
     let can = c.requires.renderable in
     let strung = c.string_tables-tables.ensures in
     let next = c.next_stretch-stretch in
-    let call = c.play_stretch-run in (
-      advanced_then here.invariant.0 (stretch_advanced can strung next.ensures c.key_table-table.ensures call.ensures.0 call.ensures.1),
-      stretch_done can strung next.ensures here.invariant.1 call.ensures.2,
-      call.auto.part ∙ next.auto.part ∙ here.invariant.2,
-      call.auto.scratch ∙ here.invariant.3,
-    )
+    let call = c.play_stretch-run in
+    record {
+      advanced = advanced_then here.invariant.advanced (stretch_advanced can strung next.ensures c.key_table-table.ensures call.ensures.0 call.ensures.1);
+      in_range = stretch_done can strung next.ensures here.invariant.in_range call.ensures.2;
+      part = call.auto.part ∙ next.auto.part ∙ here.invariant.part;
+      scratch = call.auto.scratch ∙ here.invariant.scratch;
+    }
 
 pub shape_of-part : goal.shape_of-part
-shape_of-part c = c.loop-run.invariant.2
+shape_of-part c = c.loop-run.invariant.part
 
 pub shape_of-scratch : goal.shape_of-scratch
-shape_of-scratch c = c.loop-run.invariant.3
+shape_of-scratch c = c.loop-run.invariant.scratch
 
 pub shape_of-out : goal.shape_of-out
-shape_of-out c = (advanced_lengths c.loop-run.invariant.0).0
+shape_of-out c = (advanced_lengths c.loop-run.invariant.advanced).0
 
 pub shape_of-trace : goal.shape_of-trace
-shape_of-trace c = (advanced_lengths c.loop-run.invariant.0).1
+shape_of-trace c = (advanced_lengths c.loop-run.invariant.advanced).1
 
 pub returns : goal.returns
 returns c =
     let at = c.args in
-    advanced_rendered at.instrument (events_of at.score) at.t at.m c.loop-run.invariant.0 (omega (arith, c.loop-run-test.false, c.loop-run.invariant.1.below))
+    advanced_rendered at.instrument (events_of at.score) at.t at.m c.loop-run.invariant.advanced (omega (arith, c.loop-run-test.false, c.loop-run.invariant.in_range.below))

@@ -3,14 +3,17 @@
 use mathlib.Core.Path.{◌≡◌}
 use Prim.Native.Nat.{◌-◌}
 use lib.ListN.{length}
-use Rattle.score.specs.Score.{events_of}
 use Rattle.render.specs.Render.{Advanced, InRange, sample_at, rendering_of, unstarted}
 use Rattle.render.proofs.render.Given as goal
 
 abbrev pub invariant-loop-run : goal.invariant-loop-run
-invariant-loop-run l =
-    Advanced (sample_at l.instrument (events_of l.score)) l.t (unstarted l.initial.run.piano l.initial.part l.initial.out l.initial.trace) (rendering_of l.run l.part l.out l.trace)
-    × InRange l.instrument.key_count l.run l.t l.m × (length l.part ≡ length l.initial.part) × (length l.scratch ≡ length l.initial.scratch)
+invariant-loop-run l = record {
+  advanced : Advanced (sample_at l.instrument l.events) l.t (unstarted l.initial.run.piano l.initial.part l.initial.out l.initial.trace)
+      (rendering_of l.run l.part l.out l.trace);
+  in_range : InRange l.instrument.key_count l.run l.t l.m;
+  part : length l.part ≡ length l.initial.part;
+  scratch : length l.scratch ≡ length l.initial.scratch;
+}
 
 abbrev pub decreases-loop-run : goal.decreases-loop-run
 decreases-loop-run l = l.m - l.run.done

@@ -1,39 +1,54 @@
--- `score::contacts` meets its contract. The loop's invariant: the counts of the keys below k are added up as far as the limit lets them be; n keys have all the counts there are.
--- Assumes nothing.
+-- `score::contacts` meets its contract. The loop's invariant: the counts before this one are added up. Assumes nothing.
 use mathlib.Core.Path.{◌≡◌, refl, sym, ap, ◌∙◌}
+use Prim.Native.Nat.{◌+◌}
 use native.Mathlib.Omega.{arith}
-use Rattle.counting.specs.Sums.{sum_of, sum_beyond}
-use Rattle.score.proofs.Loops.{added_none, added_more, added_over, added_all}
+use lib.ListN.{length-take, get_or}
+use lib.Seq.{get_or-take}
+use borrow.Author.Rules.{rules}
+use Rattle.std.specs.Prelude.{◌≤◌, length}
+use Rattle.counting.specs.Below.{sum_below}
+use Rattle.counting.specs.Sums.{sum_of}
+use Rattle.counting.specs.Laws.{sum_more, sum_grows}
+use Rattle.score.proofs.Totals.{all_counts, within, beyond}
 use Rattle.score.proofs.contacts.Goals as goal
-use Rattle.score.proofs.contacts.Goals.{then-keys-lt16, else-keys-lt16, then-count-limit, else-count-limit}
 
-pub loop-k-init : goal.loop-k-init
-loop-k-init c =
-    let z = c.args in
-    let start = added_none z.counts z.limit in
-    elim c.if-keys-lt16.branch [
-      | then-keys-lt16 w ↦ (omega arith, omega arith, rw w.n-is refl, start)
-      | else-keys-lt16 w ↦ (omega arith, omega arith, rw w.n-is (sym (sum_beyond z.counts 16 z.keys (omega arith) w.if-keys-lt16.false)), start)
-    ]
+pub loop-count-init : goal.loop-count-init
+unfolding sum_below
+loop-count-init c = refl
 
-pub overflow_sub-limit : goal.overflow_sub-limit
-overflow_sub-limit c = c.loop-k.invariant.3.low
+pub returns-in_err-sum : goal.returns-in_err-sum
+returns-in_err-sum c =
+    let at = c.args in
+    let k = c.loop-count.count-index in
+    let there = simp length-take at c.loop-count-test.true in
+    let same = get_or-take c.min.result at.counts k 0 (omega (arith, there)) in
+    let more = sum_more (λ j. get_or at.counts j 0) k in
+    let grows = sum_grows (λ j. get_or at.counts j 0) at.keys (k + 1) (omega (arith, there, c.min.ensures)) in
+    rw c.from_residual.ensures (beyond (omega (arith, c.in_err-sum.ensures, c.loop-count.invariant, same, more, grows, c.ranges.limit.fits)))
 
-pub overflow_add-sum : goal.overflow_add-sum
-overflow_add-sum c = record { fits = omega (arith, c.if-count-limit.true, c.loop-k.invariant.3.low) }
+pub loop-count-preserved : goal.loop-count-preserved
+loop-count-preserved c =
+    let at = c.args in
+    let k = c.loop-count.count-index in
+    let there = simp length-take at c.loop-count-test.true in
+    let same = get_or-take c.min.result at.counts k 0 (omega (arith, there)) in
+    omega (arith, c.in_ok-sum.ensures, c.loop-count.invariant, same, sum_more (λ j. get_or at.counts j 0) k)
 
-pub loop-k-preserved : goal.loop-k-preserved
-loop-k-preserved c =
-    let below = c.loop-k-test.true in
-    let z = c.args in
-    elim c.if-count-limit.branch [
-      | then-count-limit w ↦ (omega arith, c.loop-k.invariant.1, c.loop-k.invariant.2, rw (w.within-is, w.sum-is) (added_more z.counts z.limit c.loop-k.within c.loop-k.sum c.loop-k.k c.loop-k.invariant.3 w.if-count-limit.true))
-      | else-count-limit w ↦ (omega arith, c.loop-k.invariant.1, c.loop-k.invariant.2, rw (w.within-is, w.sum-is) (added_over z.counts z.limit c.loop-k.within c.loop-k.sum c.loop-k.k c.loop-k.invariant.3 w.if-count-limit.false))
-    ]
+pub returns-then-sum-limit : goal.returns-then-sum-limit
+returns-then-sum-limit c =
+    let at = c.args in
+    let long : length at.counts ≡ 16 = search rules in
+    let all = simp length-take at c.loop-count-test.false in
+    let most = simp length-take at c.loop-count.auto.count-index-end in
+    let k : c.loop-count.count-index ≡ c.min.result = omega (arith, all, most, long, c.min.ensures) in
+    within c.loop-count.sum (c.loop-count.invariant ∙ ap (λ n. sum_of n at.counts) (k ∙ c.min.ensures) ∙ all_counts at.keys at.counts long) c.if-sum-limit.true
 
-pub returns : goal.returns
-returns c =
-    let z = c.args in
-    let n : c.loop-k.k ≡ c.if-keys-lt16.n = omega (arith, c.loop-k-test.false, c.loop-k.invariant.0) in
-    let all = added_all z.counts z.limit c.loop-k.within c.loop-k.sum c.loop-k.k c.loop-k.invariant.3 z.keys (ap (λ m. sum_of m z.counts) n ∙ c.loop-k.invariant.2) in
-    record { within = all.0; sum = all.1 }
+pub returns-else-sum-limit : goal.returns-else-sum-limit
+returns-else-sum-limit c =
+    let at = c.args in
+    let long : length at.counts ≡ 16 = search rules in
+    let all = simp length-take at c.loop-count-test.false in
+    let most = simp length-take at c.loop-count.auto.count-index-end in
+    let k : c.loop-count.count-index ≡ c.min.result = omega (arith, all, most, long, c.min.ensures) in
+    let sum = c.loop-count.invariant ∙ ap (λ n. sum_of n at.counts) (k ∙ c.min.ensures) ∙ all_counts at.keys at.counts long in
+    beyond (omega (arith, sum, c.if-sum-limit.false))

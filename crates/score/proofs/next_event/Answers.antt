@@ -1,32 +1,20 @@
--- `score::next_event` meets its contract. The loop's invariant: every event below i that counts is at next or later. Assumes nothing.
-use native.Mathlib.Omega.{arith}
-use Rattle.score.proofs.Loops.{later_turn, later_end}
+-- `score::next_event` meets its contract: the chain yields the positions from `from` on, and `min` their least. Assumes nothing.
+use Rattle.std.proofs.Common.{◌≡◌, ℕ, refl, sym, rules, ◌∙◌}
+use Rattle.std.specs.Prelude.{Option, None, Some, option_map, nat_le}
+use borrow.Author.Tests.{tests}
+use Rattle.std.proofs.lemmas.Iterator.{YieldsList-from_slice, YieldsList-from_map}
+use Rattle.std.proofs.lemmas.Iterator.Consumers.{YieldsList-from_filter, min_from_yields_List}
+use Rattle.score.specs.declared.TimedEvent.{TimedEvent}
 use Rattle.score.proofs.next_event.Goals as goal
 
-pub loop-i-init : goal.loop-i-init
-loop-i-init c = (omega arith, record { each = λ j h. let z : ⊥ = omega arith in absurd z })
-
-pub offset_bounds-score-i : goal.offset_bounds-score-i
-offset_bounds-score-i c = omega arith
-
-pub bounds-score-i : goal.bounds-score-i
-bounds-score-i c = omega arith
-
-pub sooner-next-requires : goal.sooner-next-requires
-sooner-next-requires c = omega arith
-
-pub overflow_step-i : goal.overflow_step-i
-overflow_step-i c = omega arith
-
-pub loop-i-smaller : goal.loop-i-smaller
-loop-i-smaller c = omega arith
-
-pub loop-i-preserved : goal.loop-i-preserved
-loop-i-preserved c =
-    let at = c.args in
-    (omega arith, later_turn at.score.events at.from c.loop-i.next c.loop-i.i c.sooner-next.result c.loop-i.invariant.1 c.sooner-next.ensures.0 c.sooner-next.ensures.1)
+as_it_is : (r : Option ℕ) → r ≡ option_map (λ x. x) r
+as_it_is None = refl
+as_it_is (Some n) = refl
 
 pub returns : goal.returns
 returns c =
-    let at = c.args in
-    later_end at.score.events at.from c.loop-i.next at.score.count c.loop-i.i c.loop-i.invariant.1 c.loop-i-test.false
+    as_it_is c.min.result
+    ∙ min_from_yields_List _ _ c.min.ensures.ran
+    (YieldsList-from_filter _ (λ p. nat_le c.args.from p)
+    (YieldsList-from_map _ (λ (e : TimedEvent). e.position) (YieldsList-from_slice c.args.events.now cc) c.map.ensures.closure (λ x r q k. search rules))
+    c.filter.ensures.closure (λ x b q k. search (rules, tests)))

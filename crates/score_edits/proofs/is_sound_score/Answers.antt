@@ -1,16 +1,14 @@
--- After i events: what has passed, together with what the rest will say, is what the whole score says (`sound_turn`, `sound_done` in Walk.antt).
-use native.Mathlib.Omega.{arith}
-use Rattle.score_edits.proofs.Walk.{sound_turn, sound_done}
+-- Neighbours in order, and each event sound: together the score's test.
+use Rattle.std.proofs.Common.{rules, tests}
+use Rattle.std.proofs.lemmas.Fn.{always_returns_same}
+use Rattle.std.proofs.lemmas.Iterator.{YieldsList-from_slice}
+use Rattle.std.proofs.lemmas.Iterator.Search.{all_from_yields_List}
+use Rattle.score_edits.specs.Edits.{may_precede, sound_event}
+use Rattle.score_edits.proofs.Walk.{score_sound}
 use Rattle.score_edits.proofs.is_sound_score.Goals as goal
-
-pub loop-i-preserved : goal.loop-i-preserved
-loop-i-preserved c = (
-  omega arith,
-  c.loop-i.invariant.1,
-  sound_turn c.args.events c.args.count c.loop-i.i (omega arith) (omega arith) c.loop-i.last c.loop-i.sound _ _ _
-      c.may_precede-order.ensures c.is_sound_event-alone.ensures c.loop-i.invariant.2,
-)
 
 pub returns : goal.returns
 returns c =
-    sound_done c.args.events c.args.count c.loop-i.i c.loop-i.last c.loop-i.sound (omega arith) (omega arith) c.loop-i.invariant.2
+    score_sound c.args.score.now _ _
+    (c.is_sorted_by.ensures.cases may_precede (always_returns_same _ _ _ (λ a r q k. search (rules, tests))))
+    (all_from_yields_List sound_event _ _ _ c.all.ensures.ran (YieldsList-from_slice c.args.score.now cc) (λ x b q k. search (rules, tests)))

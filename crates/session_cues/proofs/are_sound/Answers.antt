@@ -1,20 +1,18 @@
--- After i slots: the tests so far, and soundness of the slots left, are soundness of all.
-use mathlib.Core.Path.{sym, ◌∙◌, ap}
-use Prim.Native.Nat.{◌+◌}
-use native.Mathlib.Omega.{arith}
-use lib.Dec.{ltb}
-use Rattle.session_cues.proofs.Slots.{kept_from, sound_turn, sound_end}
+-- The first of the slots left is sound and no later slot keeps it again, or it is not so; where none is left, all passed.
+use Rattle.std.proofs.Common.{sym, ◌∙◌, ap}
+use Rattle.std.specs.Option.{is_some}
+use Rattle.session_cues.proofs.Slots.{found_is, wrong_here, sound_here, none_left}
 use Rattle.session_cues.proofs.are_sound.Goals as goal
 
-pub loop-i-preserved : goal.loop-i-preserved
-loop-i-preserved c =
-    let cues = c.args.cues in (
-      omega arith,
-      c.loop-i.invariant.1,
-      sound_turn cues c.loop-i.i _ (omega arith) c.args.keys c.loop-i.sound _ _ _ c.is_sound_cue-alone.ensures
-          (ap (λ n. ltb c.slot_at-again.result n) (sym c.loop-i.invariant.1) ∙ kept_from cues (c.loop-i.i + 1) _ _ (omega arith) c.slot_at-again.ensures.0) c.loop-i.invariant.2,
-    )
+pub returns-then-again-is_sound_cue : goal.returns-then-again-is_sound_cue
+returns-then-again-is_sound_cue c =
+    let again = c.is_some.ensures ∙ ap is_some c.slot_at.ensures ∙ found_is _ _ in
+    wrong_here _ _ _ _ c.in-Some.ensures.cases.0 _ _ c.is_sound_cue.ensures again c.if-again-is_sound_cue.true ∙ c.loop-cue.invariant
+
+pub loop-cue-preserved : goal.loop-cue-preserved
+loop-cue-preserved c =
+    let again = c.is_some.ensures ∙ ap is_some c.slot_at.ensures ∙ found_is _ _ in
+    sound_here _ _ _ _ c.in-Some.ensures.cases.0 _ _ c.is_sound_cue.ensures again c.if-again-is_sound_cue.false ∙ c.loop-cue.invariant
 
 pub returns : goal.returns
-returns c =
-    sound_end c.args.cues c.loop-i.i (omega arith) c.args.keys c.loop-i.sound _ c.loop-i.invariant.2
+returns c = none_left _ _ c.in_default.ensures.cases ∙ c.loop-cue.invariant

@@ -1,12 +1,7 @@
--- After i slots: the count so far, at most i, and the number among the slots left make the number of all.
-use native.Mathlib.Omega.{arith}
-use Rattle.session_cues.proofs.Slots.{lost_turn, lost_end}
+-- The kept cues above q, counted in the slots or in the set.
+use Rattle.std.proofs.Common.{rules}
+use Rattle.session_cues.proofs.Slots.{lost_is}
 use Rattle.session_cues.proofs.count_above.Goals as goal
 
-pub loop-i-preserved : goal.loop-i-preserved
-loop-i-preserved c =
-    (omega arith, omega arith, c.loop-i.invariant.2, lost_turn c.args.cues c.loop-i.i _ (omega arith) c.args.q c.loop-i.n _ _ c.lost_of-n.ensures.0 c.loop-i.invariant.3)
-
 pub returns : goal.returns
-returns c =
-    lost_end c.args.cues c.loop-i.i (omega arith) c.args.q c.loop-i.n _ c.loop-i.invariant.3
+returns c = rw (← (lost_is c.args.q c.args.cues.now)) (search rules)

@@ -1,18 +1,8 @@
--- After i slots the first i are those of the mapped list.
-use native.Mathlib.Omega.{arith}
-use lib.ListN.{length-set}
+-- One slot more is dropped where it lies above q.
+use Rattle.std.proofs.Common.{arith}
 use Rattle.session_cues.specs.Cues.{drop_above}
-use Rattle.session_cues.proofs.Slots.{map_turn, map_end}
+use Rattle.session_cues.proofs.Slots.{map_turn}
 use Rattle.session_cues.proofs.drop_above.Goals as goal
 
-pub loop-i-preserved : goal.loop-i-preserved
-loop-i-preserved c = (
-  omega arith,
-  c.loop-i.invariant.1,
-  simp length-set c.loop-i.invariant.2,
-  map_turn c.args.cues c.loop-i.i _ (omega arith) (drop_above c.args.q) c.loop-i.out _ c.dropped_above-left.ensures (omega arith) c.loop-i.invariant.3,
-)
-
-pub returns : goal.returns
-returns c =
-    map_end c.args.cues c.loop-i.i (omega arith) (drop_above c.args.q) c.loop-i.out (omega arith) c.loop-i.invariant.3
+pub loop-cue-preserved : goal.loop-cue-preserved
+loop-cue-preserved c = map_turn (drop_above c.args.q) c.args.cues.now c.loop-cue.cues c.loop-cue.cue-index _ (omega arith) c.loop-cue.invariant

@@ -66,7 +66,7 @@ loop-i-preserved c =
     let d = c.design_at-d.result in
     let sum = c.add_force-sum.ensures ∙ ap (λ (y : Float). summed c.loop-i.sum y) c.strike_string-f.ensures.0 in
     at_turn c.loop-i.invariant taken d c.design_at-d.ensures c.size.result c.strike_string-f.new.part c.add_force-sum.result c.size.ensures
-    (turned_keeps at.c at.h at.damper_r.now at.t c.loop-i.i d) c.strike_string-f.ensures.1 sum
+    (turned_keeps at.c at.hammer at.damper_r.now at.t c.loop-i.i d) c.strike_string-f.ensures.1 sum
 
 pub shape_of-part : goal.shape_of-part
 shape_of-part c = c.loop-i.invariant.walked.same

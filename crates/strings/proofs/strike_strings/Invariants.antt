@@ -6,7 +6,7 @@ use Rattle.strings.proofs.strike_strings.Given as goal
 
 abbrev pub invariant-loop-i : goal.invariant-loop-i
 invariant-loop-i l =
-    WalkAt (turned_one l.c l.h l.damper_r l.t) (force_one l.c l.h l.t) l.lengths l.coefficients l.n l.initial.part l.initial.sum l.part l.sum l.at l.i
+    WalkAt (turned_one l.c l.hammer l.damper_r l.t) (force_one l.c l.hammer l.t) l.lengths l.coefficients l.n l.initial.part l.initial.sum l.part l.sum l.at l.i
 
 abbrev pub decreases-loop-i : goal.decreases-loop-i
 decreases-loop-i l = l.n - l.i
