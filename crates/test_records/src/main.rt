@@ -8,18 +8,22 @@ mod record;
 mod row;
 
 use record::WORDS;
+use refusal::Refusal;
 use std::io;
 use std::io::Write;
 use test_answers::without_feed;
 
+// The instrument inside is a file that is accepted: a refusal of it ends the program.
+fn unexpected(_: Refusal) -> io::Error {
+    io::Error::from(io::ErrorKind::InvalidData)
+}
+
 fn try_words(rt: &impl Print, words: &[u64; WORDS]) -> io::Result<()> {
     match session_words::session_at(record::session_in(words)) {
-        Some(session) => calls::try_calls(
-            rt,
-            record::instrument_of(words),
-            session,
-            record::lent_of(words),
-        ),
+        Some(session) => {
+            let instrument = record::instrument_of(words).map_err(unexpected)?;
+            calls::try_calls(rt, instrument, session, record::lent_of(words))
+        }
         None => print!(rt; " not a session's words"),
     }
 }
@@ -32,7 +36,7 @@ fn try_row(rt: &impl Print, row: &[u8]) -> io::Result<()> {
     };
     io::writer(rt).write_all(name)?;
     print!(rt; ":")?;
-    let mut words = record::right_words();
+    let mut words = record::right_words().map_err(unexpected)?;
     match row::change(&mut words, changes) {
         Some(()) => try_words(rt, &words)?,
         None => print!(rt; " unreadable")?,
