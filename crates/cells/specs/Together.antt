@@ -1,8 +1,11 @@
--- Items whose cells lie one after the other, some of them worked on together, a step of each at a turn, in as many passes as it takes: no item touches
--- another's cells, so what becomes of an item is said of its own cells alone. Any number of items, of any sizes; a list of values is items of one cell.
+-- Items whose cells lie one after the other, some of them worked on together, a step of each at a turn, in as many
+-- passes as it takes: no item touches
+-- another's cells, so what becomes of an item is said of its own cells alone. Any number of items, of any sizes; a list
+-- of values is items of one cell.
 use Rattle.std.specs.Prelude.{◌≡◌, length, take, set}
 use Rattle.std.proofs.Math.Path.{refl, sym, ap}
-use Rattle.std.proofs.Common.{◌∙◌, ⊎_elim, zero-add, le_trans, le_of_eq, lt_irrefl, eq-zero-or-pos, add-one, take-append-drop, drop-drop, take-take, get_or-take, get_or-drop, get_or-set_same, get_or-set_other}
+use Rattle.std.proofs.Common.{◌∙◌, ⊎_elim, zero-add, le_trans, le_of_eq, lt_irrefl, eq-zero-or-pos, add-one, take-append-drop, drop-drop}
+use Rattle.std.proofs.Common.{take-take, get_or-take, get_or-drop, get_or-set_same, get_or-set_other}
 use mathlib.Core.List.{List, [], ◌∷◌, ◌++◌}
 use Prim.Native.Nat.{ℕ, zero, suc, ◌+◌, ◌-◌, ◌≤◌, ◌<◌}
 use Rattle.std.proofs.Math.Nat.{add-zero}
@@ -57,11 +60,13 @@ module _ (start size : ℕ → ℕ) (next : (k : ℕ) → start (k + 1) ≡ star
     moved_none i g w = record { same = refl; before = refl; each = λ l h. let z : ⊥ = omega arith in absurd z; past = refl }
 
     -- items past those moved on have their cells still
-    pub own_kept : {i m : ℕ} {g : ℕ → List X → List X} {w₀ w : List X} → Moved start size i m g w₀ w → (k : ℕ) → i + m ≤ k → own start size k w ≡ own start size k w₀
+    pub own_kept : {i m : ℕ} {g : ℕ → List X → List X} {w₀ w : List X} → Moved start size i m g w₀ w → (k : ℕ) → i + m ≤ k
+        → own start size k w ≡ own start size k w₀
     own_kept {i} {m} {g} {w₀} {w} r k h = ap (λ (l : List X). take (size k) l) (further (start (i + m)) (start k) w w₀ (starts_rise (i + m) k h) r.past)
 
     -- so have the items before them
-    own_before : (k j : ℕ) (v w : List X) → k < j → start j ≤ length v → start j ≤ length w → take (start j) v ≡ take (start j) w → own start size k v ≡ own start size k w
+    own_before : (k j : ℕ) (v w : List X) → k < j → start j ≤ length v → start j ≤ length w → take (start j) v ≡ take (start j) w
+        → own start size k v ≡ own start size k w
     own_before k j v w h a b e =
         let n = ends_before k j h in
         part_of_front (start k) (size k) v (omega (arith, n)) ∙ ap (λ (l : List X). drop (start k) l) (nearer (start k + size k) (start j) v w n e)
@@ -163,7 +168,8 @@ module _ {D : Type 0} (sz : D → ℕ) (f : ℕ → D) where
         ap (λ (l : List Y). x i (f i) (own start_in size_in i w) ∷ l)
         (ap (λ (l : List X). collect sz x (i + 1) (list_from f (i + 1) n) l) (after i w) ∙ collected x w (i + 1) n)
 
-    pub collect_own : {Y : Type 0} (x : ℕ → D → List X → Y) (w : List X) (n : ℕ) → collect sz x 0 (list_from f 0 n) w ≡ list_from (λ k. x k (f k) (own start_in size_in k w)) 0 n
+    pub collect_own : {Y : Type 0} (x : ℕ → D → List X → Y) (w : List X) (n : ℕ)
+        → collect sz x 0 (list_from f 0 n) w ≡ list_from (λ k. x k (f k) (own start_in size_in k w)) 0 n
     unfolding list_from total
     collect_own x w n = collected x w 0 n
 

@@ -1,9 +1,10 @@
 -- Laws of what holds of, adds up over, or is listed for each number below n. Assumes nothing.
-use Rattle.std.specs.Prelude.{◌≡◌, Bool, true, false, ◌&&◌, ◌⊎◌, ltb, replicate, set}
+use Rattle.std.specs.Prelude.{◌≡◌, Bool, true, ◌&&◌, replicate, set}
 use Rattle.std.proofs.Math.Path.{refl, sym, ap}
-use Rattle.std.proofs.Common.{◌∙◌, subst, inl, inr, le_refl, add-zero, eq-or-lt_of_le, le_of_suc-le-suc, ltb-true, ltb-false}
+use Rattle.std.proofs.Common.{◌∙◌, subst, le_refl, add-zero, eq-or-lt_of_le, le_of_suc-le-suc}
 use mathlib.Core.List.{List, [], ◌∷◌, ◌++◌, append_assoc, append-nil}
 use Rattle.std.proofs.Math.Logic.{⊎_elim}
+pub use Rattle.std.proofs.lemmas.Bool.{cases_lt as lt_or_ge}
 use Prim.Native.Nat.{ℕ, zero, suc, ◌+◌, ◌-◌, ◌*◌, ◌≤◌, ◌<◌}
 use Rattle.std.proofs.Math.Nat.{mul-suc}
 use Rattle.std.proofs.Math.Numerals.{add-one}
@@ -14,17 +15,10 @@ use Rattle.std.proofs.Math.Seq.{set-append_seam, get_or-append-add}
 use Rattle.counting.specs.Every.{and_left, and_right}
 use Rattle.counting.specs.Below.{all_below, sum_below, gather, tabulate, pad}
 
--- ---- a number below suc n is n or below n; one is below another or not
+-- ---- a number below suc n is n or below n
 
 last_or_less : {C : Type 0} (n i : ℕ) → i < suc n → (i ≡ n → C) → (i < n → C) → C
 last_or_less n i h at below = ⊎_elim at below (eq-or-lt_of_le (le_of_suc-le-suc h))
-
-either : (a b : ℕ) (t : Bool) → ltb a b ≡ t → (a < b) ⊎ (b ≤ a)
-either a b true e = inl (ltb-true a b e)
-either a b false e = inr (ltb-false a b e)
-
-pub lt_or_ge : (a b : ℕ) → (a < b) ⊎ (b ≤ a)
-lt_or_ge a b = either a b (ltb a b) refl
 
 -- ---- all below
 
@@ -145,7 +139,8 @@ module _ {A : Type 0} where
   pub gather_cong : (n : ℕ) (G H : ℕ → List A) → ((i : ℕ) → i < n → G i ≡ H i) → gather n G ≡ gather n H
   unfolding gather
   gather_cong zero G H h = refl
-  gather_cong (suc n) G H h = ap (λ (l : List A). l ++ G n) (gather_cong n G H (λ i l. h i (omega arith))) ∙ ap (λ (l : List A). gather n H ++ l) (h n (le_refl (suc n)))
+  gather_cong (suc n) G H h = ap (λ (l : List A). l ++ G n) (gather_cong n G H (λ i l. h i (omega arith)))
+      ∙ ap (λ (l : List A). gather n H ++ l) (h n (le_refl (suc n)))
 
   -- runs of a numbered list, one after the other, are the list
   pub gather_runs : (n : ℕ) (S : ℕ → ℕ) (g : ℕ → A) → gather n (λ k. tabulate (S k) (λ j. g (sum_below k S + j))) ≡ tabulate (sum_below n S) g

@@ -1,4 +1,5 @@
--- The first n numbers of a list, added up: what becomes of the sum where one of them goes up by one, and that places past the list add nothing. Assumes nothing.
+-- The first n numbers of a list, added up: what becomes of the sum where one of them goes up by one, and that places
+-- past the list add nothing. Assumes nothing.
 use Rattle.std.specs.Prelude.{◌≡◌, List, length, set, replicate}
 use Rattle.std.proofs.Math.Path.{refl, ap}
 use Rattle.std.proofs.Common.{sym, ◌∙◌, eq-or-lt_of_le, le_of_suc-le-suc, arith}

@@ -2,8 +2,8 @@
 // `StringWg::new`.
 #![tactic(auto)]
 
-ghost use Rattle.std.specs.Prelude.{◌≡◌, ◌-◌, max};
-ghost use Rattle.cuts.specs.Cuts.{clamp_to, half_of, cell_at, cuts_of};
+ghost use Rattle.std.specs.Prelude.{◌≡◌};
+ghost use Rattle.cuts.specs.Cuts.{half_of, cell_at, cuts_of};
 
 use float::round_away;
 
@@ -15,32 +15,8 @@ pub struct Cuts {
     pub nc: usize,
 }
 
-fn saturating_sub(a: usize, b: usize) -> usize
-    ensures { result ≡ a - b }
-{
-    if b <= a { a - b } else { 0 }
-}
-
-fn larger(a: usize, b: usize) -> usize
-    ensures { result ≡ max a b }
-{
-    if a < b { b } else { a }
-}
-
-fn clamped(x: usize, lo: usize, hi: usize) -> usize
-    ensures { result ≡ clamp_to x lo hi }
-{
-    let y = larger(x, lo);
-    if hi < y { hi } else { y }
-}
-
-fn size(x: u64) -> usize
-    ensures { result ≡ x }
-{
-    x as usize
-}
-
 // The one-way length of n cells with half the delay of the filters, which a round trip passes once.
+#[tactic(auto, unfolding(crate::specs::Cuts::half_of))]
 fn half_of(n: usize, phi: f64) -> f64
     ensures { result ≡ half_of n phi }
 {
@@ -48,26 +24,22 @@ fn half_of(n: usize, phi: f64) -> f64
 }
 
 // The cell at a part of the length, from lo to hi.
+#[tactic(auto, unfolding(crate::specs::Cuts::cell_at))]
 fn cell_at(half: f64, ratio: f64, lo: usize, hi: usize) -> usize
     ensures { result ≡ cell_at half ratio lo hi }
 {
-    clamped(size(round_away(half * ratio)), lo, hi)
+    (round_away(half * ratio) as usize).max(lo).min(hi)
 }
 
 pub fn cut_string(n: usize, phi: f64, strike_ratio: f64, damper_ratio: f64) -> Cuts
     ensures { result ≡ cuts_of n phi strike_ratio damper_ratio }
 {
     let half = half_of(n, phi);
-    let na = cell_at(half, strike_ratio, 1, larger(saturating_sub(n, 2), 1));
-    let nd = cell_at(
-        half,
-        damper_ratio,
-        na + 1,
-        larger(saturating_sub(n, 1), na + 1),
-    );
+    let na = cell_at(half, strike_ratio, 1, n.saturating_sub(2).max(1));
+    let nd = cell_at(half, damper_ratio, na + 1, n.saturating_sub(1).max(na + 1));
     Cuts {
         na,
-        nb: saturating_sub(nd, na),
-        nc: larger(saturating_sub(n, nd), 1),
+        nb: nd.saturating_sub(na),
+        nc: n.saturating_sub(nd).max(1),
     }
 }

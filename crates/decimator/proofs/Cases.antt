@@ -9,9 +9,12 @@ use native.Mathlib.Numerals.{add-one}
 use native.Mathlib.Omega.{arith}
 use lib.Dec.{eqb, ltb}
 use lib.ListN.{length, take, set, get_or, length-set}
-use lib.Seq.{take-suc, take-suc-set, take_all}
+use lib.Seq.{take-suc-set, take_all}
 use lib.Ieee.{Float, nan, binary64, add, mul}
 use borrow.Author.Tests.{le-leb, lt-leb, lt-ltb, le-ltb, eq-eqb, ne_eqb, ltb-false, eqb-true}
+use Rattle.std.specs.List.{fold, range_with_len}
+use Rattle.std.proofs.lemmas.List.Sums.{fold-append}
+use Rattle.float.specs.Float.{zero as +0}
 use Rattle.counting.specs.Below.{tabulate}
 use Rattle.counting.specs.Laws.{tabulate_more}
 use Rattle.decimator.specs.Decimate.{output_length, refusal_of, weighed, tap_sum, filtered_at, decimated}
@@ -107,6 +110,10 @@ same_room n taps factor room r e z h =
 
 -- ---- the taps
 
+range_more : (a n : ℕ) → range_with_len a (suc n) ≡ range_with_len a n ++ ((a + n) ∷ [])
+range_more a zero = ap (λ (m : ℕ). m ∷ []) (omega arith)
+range_more a (suc n) = ap (λ (l : List ℕ). a ∷ l) (range_more (a + 1) n ∙ ap (λ (m : ℕ). range_with_len (a + 1) n ++ (m ∷ [])) (omega arith))
+
 module _ (x taps : List Float) (at k : ℕ) (sum : Float) where
   pub before_first : at + k < 63 → sum ≡ weighed x taps at k sum
   unfolding weighed
@@ -121,10 +128,15 @@ module _ (x taps : List Float) (at k : ℕ) (sum : Float) where
   unfolding weighed
   past_last h l = rw (le-leb 63 (at + k) h, le-ltb (at + k - 63) (length x) l)
 
--- one tap more
-pub tap_sum_more : (x taps : List Float) (at k : ℕ) (s r : Float) → s ≡ tap_sum x taps at k → r ≡ weighed x taps at k s → r ≡ tap_sum x taps at (k + 1)
+-- the taps, one after the other
+pub tap_sum_fold : (x taps : List Float) (at n : ℕ) → fold (λ (s : Float) (k : ℕ). weighed x taps at k s) +0 (range_with_len 0 n) ≡ tap_sum x taps at n
 unfolding tap_sum
-tap_sum_more x taps at k s r e f = rw (add-one k, ← e) f
+tap_sum_fold x taps at zero = refl
+tap_sum_fold x taps at (suc n) =
+    ap (fold (λ (s : Float) (k : ℕ). weighed x taps at k s) +0) (range_more 0 n)
+    ∙ fold-append (λ (s : Float) (k : ℕ). weighed x taps at k s) +0 (range_with_len 0 n) ((0 + n) ∷ [])
+    ∙ ap (λ (s : Float). weighed x taps at (0 + n) s) (tap_sum_fold x taps at n)
+    ∙ ap (λ (k : ℕ). weighed x taps at k (tap_sum x taps at n)) (omega arith)
 
 -- ---- a loop that stores g i at each i
 
@@ -154,15 +166,6 @@ module _ {g : ℕ → Float} {out₀ : List Float} where
         sym (take_all i out (omega (arith, s.same))) ∙ s.done ∙ ap (λ (n : ℕ). tabulate n g) e
 
 -- ---- the whole
-
--- a list is what it holds at each place
-listed : (x : List Float) (n : ℕ) → n ≤ length x → tabulate n (λ i. get_or x i nan) ≡ take n x
-unfolding tabulate
-listed x zero h = refl
-listed x (suc n) h = ap (λ (l : List Float). l ++ (get_or x n nan ∷ [])) (listed x n (omega arith)) ∙ sym (take-suc x n nan (omega arith))
-
-pub whole_list : (x : List Float) (n : ℕ) → n ≡ length x → tabulate n (λ i. get_or x i nan) ≡ x
-whole_list x n e = listed x n (omega arith) ∙ take_all n x (omega arith)
 
 pub copied : (x taps : List Float) (factor : ℕ) → factor ≤ 1 → x ≡ decimated x taps factor
 unfolding decimated

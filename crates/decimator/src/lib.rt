@@ -26,12 +26,15 @@ pub fn output_length(n: usize, factor: usize) -> usize
     }
 }
 
-// Whether a signal of n samples can be thinned.
+// The first refusal that the sizes meet.
 #[tactic(auto, using(crate::proofs::Cases::refusals))]
 fn test(n: usize, taps: usize, factor: usize, room: usize) -> Result<(), Refusal>
     ensures { number_in result ≡ refusal_of n taps factor room }
 {
-    if factor > 64 || n > MOST {
+    if factor > 64 {
+        return Err(Refusal::SignalLength);
+    }
+    if n > MOST {
         return Err(Refusal::SignalLength);
     }
     if taps != TAPS {
@@ -64,11 +67,7 @@ fn filtered_at(x: &[f64], taps: &[f64], at: usize) -> f64
     requires { (at < 0x10_0000) × (length taps.now ≡ 127) }
     ensures { result ≡ filtered_at x.now taps.now at }
 {
-    let mut sum = 0.0;
-    for k in 0..TAPS {
-        sum = weigh(x, taps, at, k, sum);
-    }
-    sum
+    (0..TAPS).fold(0.0, |sum, k| weigh(x, taps, at, k, sum))
 }
 
 // Every factor-th sample, filtered.
@@ -76,8 +75,8 @@ fn thin(x: &[f64], taps: &[f64], factor: usize, out: &mut [f64])
     requires { Thins x.now taps.now factor out.old }
     ensures { out.new ≡ tabulate (length out.old) (λ i. filtered_at x.now taps.now (i * factor)) }
 {
-    for i in 0..out.len() {
-        out[i] = filtered_at(x, taps, i * factor);
+    for (i, sample) in out.iter_mut().enumerate() {
+        *sample = filtered_at(x, taps, i * factor);
     }
 }
 

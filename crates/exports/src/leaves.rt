@@ -185,8 +185,8 @@ pub extern "C" fn leaf_force_sweep(
     }
 }
 
-// How many trials the search for a force took, as `hammer::Search` counts them. It is for the bench:
-// nothing is promised of it.
+// How the search for a force found it, as the number of `hammer::Way`. It is for the bench: nothing is
+// promised of it.
 #[unsafe(no_mangle)]
 pub extern "C" fn leaf_force_trials(
     stiffness: f64,
@@ -202,8 +202,7 @@ pub extern "C" fn leaf_force_trials(
         mass: 1.0,
         tau: 0.0,
     };
-    let search = hammer::search_force(hammer, eps_r, c0, c1);
-    search.trials
+    hammer::search_force(hammer, eps_r, c0, c1).way as u32
 }
 
 // The row runs over a block: each input gives way to the row's output.

@@ -1,6 +1,6 @@
 -- The loop filter in steps that other strings' may come between: Thiran's stage, the first k cells of the row, and the rest of the row with the loss.
 use Rattle.std.specs.Prelude.{◌≡◌, refl, List, [], ◌∷◌, ◌++◌, ℕ, ◌+◌, ◌-◌, ◌≤◌, length, take, drop, get_or, Float}
-use Rattle.std.proofs.Common.{sym, ap, ◌∙◌, arith, length-append, length-take, length-drop, length-set, take_at, drop_at}
+use Rattle.std.proofs.Common.{sym, ap, ◌∙◌, arith, length-append, length-take, length-drop, length-set, take_at, drop_at, take-append-drop}
 use Rattle.std.proofs.Math.ListN.{set}
 use Rattle.std.specs.Float.{nan}
 use Rattle.cells.specs.Splice.{part, splice, part_length, part_past, length_splice}
@@ -121,6 +121,31 @@ module _ (c : LoopFilter) (f : List Float) (x : Float) (n k : ℕ) (hk : k ≡ n
   pub steps_cells : finish_cells c k rowed v ≡ loop_cells c f x
   unfolding finish_cells
   steps_cells = rw (steps_out, rowed_length, next_row a u n 2 k m started hk fits) (ap (λ (y : Float). set (row_at a 2 (k + m) u started) (length f - 1) y) (sym loss.0) ∙ loss.1)
+
+-- So are Thiran's stage and all that comes behind it.
+module _ (c : LoopFilter) (f : List Float) (x : Float) (h : 3 ≤ length f) where
+  abbrev begun : List Float
+  begun = stage_cells c.thiran_a (take 2 f) x ++ drop 2 f
+
+  abbrev entered : Float
+  entered = stage_out c.thiran_a (take 2 f) x
+
+  pub begun_size : 3 ≤ length begun
+  begun_size = omega (arith, started_length c f x 0 0 refl h)
+
+  no_row : row_at c.ap_a 2 0 entered begun ≡ begun
+  unfolding row_cells
+  no_row = take-append-drop 2 begun
+
+  no_out : out_at c.ap_a 2 0 entered begun ≡ entered
+  unfolding row_out
+  no_out = refl
+
+  pub begun_out : finish_out c 0 begun entered ≡ loop_out c f x
+  begun_out = rw (no_row, no_out) at (steps_out c f x 0 0 refl h)
+
+  pub begun_cells : finish_cells c 0 begun entered ≡ loop_cells c f x
+  begun_cells = rw (no_row, no_out) at (steps_cells c f x 0 0 refl h)
 
 -- what is left keeps the number of cells
 pub finish_length : (c : LoopFilter) (k : ℕ) (f : List Float) (v : Float) → k + 3 ≤ length f → length (finish_cells c k f v) ≡ length f

@@ -1,4 +1,5 @@
-// The filters of a string's loop (document 01: Thiran, the dispersion stages, the loss), in place on lent cells. Each is total: see `specs/Filter.antt`
+// The filters of a string's loop (document 01: Thiran, the dispersion stages, the loss), in place on lent cells. Each
+// is total: see `specs/Filter.antt`
 // for what fewer cells than a filter holds mean.
 #![tactic(auto)]
 
@@ -28,7 +29,8 @@ pub fn allpass(cells: &mut [f64], a: f64, x: f64) -> f64
     y
 }
 
-// The row of stages, each on its own two cells.
+// The row of stages, each on its own two cells. It counts the cells: what the library's cuts into pairs lend is not known
+// once it is written.
 pub fn dispersion(cells: &mut [f64], a: f64, x: f64) -> f64
     ensures { (result ≡ row_out a cells.old x) × (cells.new ≡ row_cells a cells.old x) }
 {
@@ -48,12 +50,8 @@ pub fn loop_filter(cells: &mut [f64], filter: LoopFilter, x: f64) -> f64
     if cells.len() < 3 {
         return x;
     }
-    let last = cells.len() - 1;
     let u = allpass(&mut cells[0..2], filter.thiran_a, x);
-    let v = dispersion(&mut cells[2..last], filter.ap_a, u);
-    let y = filter.loss_g * (1.0 - filter.loss_c) * v + filter.loss_c * cells[last];
-    cells[last] = y;
-    y
+    finish(cells, filter, 0, u)
 }
 
 // What is left of the loop filter once Thiran's stage and the first k cells of the row are done: the rest of the row, then the loss.

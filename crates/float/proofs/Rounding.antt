@@ -1,5 +1,9 @@
 -- `round_away` by cases, as the code tests them. Assumes nothing.
-use Rattle.std.proofs.Common.{◌≡◌, ℕ, zero, suc, ◌+◌, ◌-◌, ◌*◌, ◌/◌, ◌^◌, ◌<◌, ◌≤◌, min, Bool, true, false, not, T, ltb, ℤ, pos, negsuc, sym, refl, ap, ◌∙◌, subst, true≢false, le_trans, le_of_eq, lt_of_lt_of_le, le_of_suc-le-suc, lt_of_le_of_lt, mul-le-mul_right, mul_assoc, mul_comm, div-lt_iff_lt-mul, lt_of_mul-lt-mul_right, mul-le-mul_left, mul-lt-mul_of_pos_right, one-mul, le-div_iff_mul-le, zero-mul, mul-one, mul_right_comm, div-one, mul_left_comm, arith, lit≤, ltb→lt, lt→ltb, nltb→le, pow_pos}
+use Rattle.std.proofs.Common.{◌≡◌, ℕ, zero, suc, ◌+◌, ◌-◌, ◌*◌, ◌/◌, ◌^◌, ◌<◌, ◌≤◌, min, Bool, true, false, not, T, ltb, ℤ, pos, negsuc}
+use Rattle.std.proofs.Common.{sym, refl, ap, ◌∙◌, subst, true≢false, le_trans, le_of_eq, lt_of_lt_of_le, le_of_suc-le-suc, lt_of_le_of_lt}
+use Rattle.std.proofs.Common.{mul-le-mul_right, mul_assoc, mul_comm, div-lt_iff_lt-mul, lt_of_mul-lt-mul_right, mul-le-mul_left}
+use Rattle.std.proofs.Common.{mul-lt-mul_of_pos_right, one-mul, le-div_iff_mul-le, zero-mul, mul-one, mul_right_comm, div-one}
+use Rattle.std.proofs.Common.{mul_left_comm, arith, lit≤, ltb→lt, lt→ltb, nltb→le, pow_pos}
 use native.Mathlib.Nat.{add-mul-div_right}
 use native.Mathlib.Nat.{div-div-eq-div-mul, pow-succ'}
 use mathlib.Core.Bool.{false≢true}
@@ -153,7 +157,8 @@ doubling x f h l =
     (under_power (suc p.0) p.1 62 (ap (λ (v : Float). lt v (fin false 1 (pos 62))) (sym e) ∙ l)))
 
 -- from 2 ^ 62 on a value is a whole number
-by_whole : (m : ℕ) (e : ℤ) → T (fits binary64 (fin false (suc m) e)) → 2 ^ 62 * down e ≤ suc m * up e → to_unsigned 64 (fin false (suc m) e) ≡ round_away (fin false (suc m) e)
+by_whole : (m : ℕ) (e : ℤ) → T (fits binary64 (fin false (suc m) e)) → 2 ^ 62 * down e ≤ suc m * up e
+    → to_unsigned 64 (fin false (suc m) e) ≡ round_away (fin false (suc m) e)
 unfolding to_unsigned round_away
 by_whole m (pos k) f l = ap (λ (n : ℕ). min n (2 ^ 64 - 1)) (div-one (suc m * 2 ^ k) ∙ sym (half_odd (suc m * 2 ^ k)))
   where
@@ -167,7 +172,8 @@ by_whole m (negsuc a) f l =
     few : (n p : ℕ) → n < 2 ^ 53 → p ≤ n → 2 ^ 62 ≤ p → ⊥
     few n p a b c = omega arith
 
-pub wholly : (x : Float) → T (fits binary64 x) → lt nought x ≡ true → lt x (fin false 1 (pos 62)) ≡ false → lt x (fin false 1 (pos 64)) ≡ true → to_unsigned 64 x ≡ round_away x
+pub wholly : (x : Float) → T (fits binary64 x) → lt nought x ≡ true → lt x (fin false 1 (pos 62)) ≡ false → lt x (fin false 1 (pos 64)) ≡ true
+    → to_unsigned 64 x ≡ round_away x
 wholly x f h n l =
     let p = plain x 64 h l in
     let e = p.2 in

@@ -1,4 +1,5 @@
-// What the Rust takes from its library on f64 and Rattle does not have: min, max, clamp, and rounding to a whole number.
+// What the Rust takes from its library on f64: min, max, clamp, and rounding to a whole number. The methods of Rattle's own
+// library promise less: of two equal operands, as 0 and -0, either may come back, and `clamp` asks that lo is at most hi.
 #![tactic(auto)]
 
 ghost use Rattle.std.specs.Prelude.{◌≡◌};

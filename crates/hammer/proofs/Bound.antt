@@ -1,4 +1,5 @@
--- For c0 and c1 above 0 and c0 / c1 at most half the largest value, the felt's force lies from 0 to the rounded c0 / c1: each middle lies between the two ends that it
+-- For c0 and c1 above 0 and c0 / c1 at most half the largest value, the felt's force lies from 0 to the rounded c0 /
+-- c1: each middle lies between the two ends that it
 -- halves, and so does what the halvings end in. Nothing is asked of the test, so nothing of stiffness, exponent and memory. Assumes nothing.
 use mathlib.Core.Path.{◌≡◌, refl, sym, subst}
 use Prim.Native.Nat.{ℕ, zero, suc, ◌-◌, ◌*◌, ◌^◌, ◌<◌, zero-le}
@@ -12,7 +13,8 @@ use lib.Ieee.Bits.{is_true}
 use lib.Ieee.Fits.{div-fits}
 use lib.Ieee.Positive.{positive}
 use Rattle.float.specs.Float.{positive_part, zero as +0}
-use Rattle.float.specs.Order.{nonneg, finite_nonneg, nought, zero_is, finite_nonneg_lem, positive_finite, cross_le, zero_nonneg, zero_least, not_inf_le, order_trans, finite_below}
+use Rattle.float.specs.Order.{nonneg, finite_nonneg, nought, zero_is, finite_nonneg_lem, positive_finite, cross_le, zero_nonneg, zero_least}
+use Rattle.float.specs.Order.{not_inf_le, order_trans, finite_below}
 use Rattle.float.specs.Order.{sign_set_low, low_or_positive, div_nonneg, div_mono}
 use Rattle.float.specs.Difference.{part_nonneg, under_part}
 use Rattle.float.specs.Units.{Has, has_finite, in_order, ordered}

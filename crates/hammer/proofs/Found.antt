@@ -1,4 +1,5 @@
--- Halvings by a guess give the force that halvings by the felt's own test do, where that test agrees at the two ends which they leave. Assumes nothing.
+-- Halvings by a guess give the force that halvings by the felt's own test do, where that test agrees at the two ends
+-- which they leave. Assumes nothing.
 use mathlib.Core.Path.{◌≡◌, refl, sym, ap, ◌∙◌, subst}
 use Prim.Native.Nat.{ℕ, ◌*◌, ◌^◌, ◌<◌}
 use native.Mathlib.Nat.{lt_of_lt_of_le}

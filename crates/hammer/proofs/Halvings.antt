@@ -1,4 +1,5 @@
--- `bisect` and the two ends turn by turn, and `force_of` by cases, as the code goes: with i of n halvings done, the ones left give what all n give. Assumes nothing.
+-- `bisect` and the two ends turn by turn, and `force_of` by cases, as the code goes: with i of n halvings done, the
+-- ones left give what all n give. Assumes nothing.
 use mathlib.Core.Path.{◌≡◌}
 use Prim.Native.Nat.{ℕ, suc, ◌+◌, ◌-◌, ◌<◌, ◌≤◌}
 use native.Mathlib.Omega.{arith}

@@ -1,4 +1,5 @@
--- The felt's test is one of a threshold: a force that is too low stays too low further down. Less force leaves more compression, its power is no smaller, and so the
+-- The felt's test is one of a threshold: a force that is too low stays too low further down. Less force leaves more
+-- compression, its power is no smaller, and so the
 -- felt's force is no smaller: each rounded operation keeps order. It holds for moderate numbers. Assumes nothing.
 use mathlib.Core.Path.{◌≡◌, refl, sym, ap, ◌∙◌, subst}
 use mathlib.Core.Logic.{◌⊎◌, inl, inr}
@@ -8,7 +9,8 @@ use lib.Ieee.{Float, binary64, mul, sub, lt, le, eq, fits}
 use lib.Ieee.Fits.{mul-fits}
 use lib.Ieee.Positive.{positive}
 use Rattle.float.specs.Float.{positive_part, zero as +0}
-use Rattle.float.specs.Order.{nonneg, finite_nonneg, nought, zero_is, finite_nonneg_lem, positive_finite, lt_between, less_finite, above_nonneg, above_positive}
+use Rattle.float.specs.Order.{nonneg, finite_nonneg, nought, zero_is, finite_nonneg_lem, positive_finite, lt_between, less_finite}
+use Rattle.float.specs.Order.{above_nonneg, above_positive}
 use Rattle.float.specs.Order.{mul_nonneg_right, mul_mono_right, mul_sign_set}
 use Rattle.float.specs.Difference.{SameOff, zero_off, sub_cases, sub_sign_set, then_less, if_less, sub_mono, left_fits, left_finite, left_anti}
 use Rattle.power.specs.Power.{power_of}

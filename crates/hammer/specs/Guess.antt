@@ -1,4 +1,5 @@
--- The search by a guess, which `contact_force` tries before it halves by the felt's own test: the ends that its halvings leave, and what it asks of its numbers.
+-- The search by a guess, which `contact_force` tries before it halves by the felt's own test: the ends that its
+-- halvings leave, and what it asks of its numbers.
 -- Definitions only: assumes nothing. What a guess finds is `force_of` all the same: proofs/Found.
 use Rattle.std.specs.Prelude.{ℕ, zero, suc, ◌≡◌, Bool, true, cond, ◌⊎◌, Float}
 use Rattle.std.specs.Float.{binary64}

@@ -1,7 +1,7 @@
 // The felt hammer and the force of its contact with one string.
 #![tactic(auto)]
 
-ghost use Rattle.std.specs.Prelude.{◌≡◌, true, cond, ◌⊎◌};
+ghost use Rattle.std.specs.Prelude.{◌≡◌, true, cond, ◌⊎◌, IfOk};
 ghost use Rattle.std.specs.Float.Ieee.{eq};
 ghost use Rattle.float.specs.Float.{zero as +0};
 ghost use Rattle.hammer.specs.Contact.{felt_force, bisect, force_of, ForceBound};
@@ -21,35 +21,114 @@ pub struct Hammer {
     pub tau: f64,
 }
 
-// The felt's force at a compression x, with eps times its memory taken off the power.
-fn felt_force(hammer: Hammer, eps_r: f64, x: f64) -> f64
-    ensures { result ≡ felt_force hammer eps_r x }
-{
-    hammer.stiffness * (power(x, hammer.exponent) - eps_r)
+// A felt that meets one string: what eps times its memory takes off its power, and the compression c0 - c1 F that a
+// force F between the two leaves.
+#[derive(Clone, Copy)]
+struct Contact {
+    hammer: Hammer,
+    eps_r: f64,
+    c0: f64,
+    c1: f64,
 }
 
-// Whether a force m is below the felt's force at the compression that m leaves.
-fn too_low(hammer: Hammer, eps_r: f64, c0: f64, c1: f64, m: f64) -> bool
-    ensures { result ≡ too_low hammer eps_r c0 c1 m }
-{
-    m - felt_force(hammer, eps_r, positive_part(c0 - c1 * m)) < 0.0
-}
+impl Contact {
+    // The felt's force at a compression x, with eps times its memory taken off the power.
+    #[tactic(auto, unfolding(crate::specs::Contact::felt_force))]
+    fn felt_force(self, x: f64) -> f64
+        ensures { result ≡ felt_force self.hammer self.eps_r x }
+    {
+        self.hammer.stiffness * (power(x, self.hammer.exponent) - self.eps_r)
+    }
 
-// Fifty halvings, each with the felt's own test: a power at every turn.
-fn bisect_force(hammer: Hammer, eps_r: f64, c0: f64, c1: f64, top: f64) -> f64
-    ensures { result ≡ bisect (too_low hammer eps_r c0 c1) 50 +0 top }
-{
-    let mut lo: f64 = 0.0;
-    let mut hi: f64 = top;
-    for i in 0u32..50u32 {
-        let mid = 0.5 * (lo + hi);
-        if too_low(hammer, eps_r, c0, c1, mid) {
-            lo = mid;
+    // Whether a force m is below the felt's force at the compression that m leaves.
+    fn is_too_low(self, m: f64) -> bool
+        ensures { result ≡ too_low self.hammer self.eps_r self.c0 self.c1 m }
+    {
+        m - self.felt_force(positive_part(self.c0 - self.c1 * m)) < 0.0
+    }
+
+    // Fifty halvings, each with the felt's own test: a power at every turn.
+    fn bisect_force(self, top: f64) -> f64
+        ensures { result ≡ bisect (too_low self.hammer self.eps_r self.c0 self.c1) 50 +0 top }
+    {
+        let mut lo: f64 = 0.0;
+        let mut hi: f64 = top;
+        for _ in 0u32..50u32 {
+            let mid = 0.5 * (lo + hi);
+            if self.is_too_low(mid) {
+                lo = mid;
+            } else {
+                hi = mid;
+            }
+        }
+        0.5 * (lo + hi)
+    }
+
+    // Where the estimate starts. A felt that is soft beside the string: a Halley step from 0, where it pushes with f0. A
+    // stiff one takes nearly the whole force c0 / c1; what is left of c0 is then about a root.
+    fn first_estimate(self, f0: f64, top: f64) -> f64 {
+        let quarters = quarters_of(self.hammer.exponent);
+        let p: f64 = 0.25 * (quarters as f64);
+        let u: f64 = self.c1 / self.c0;
+        let ke: f64 = self.hammer.stiffness * self.eps_r;
+        let s: f64 = u * p * (f0 + ke);
+        if s > 16.0 {
+            let left = rough_root((top + ke) / (f0 + ke), quarters);
+            return top - top * left;
+        }
+        f0 / (1.0 + s - 0.5 * s * (p - 1.0) * u * (f0 / (1.0 + s)))
+    }
+
+    // About the force, by Newton's steps, until the next would be less than an interval that fifty halvings leave. Nothing
+    // is said of the result, since the felt's own test decides on it.
+    fn estimate_force(self, f0: f64, top: f64) -> f64 {
+        let w: f64 = self.c1 * (0.25 * (quarters_of(self.hammer.exponent) as f64));
+        let ke: f64 = self.hammer.stiffness * self.eps_r;
+        let near: f64 = 0.000000000000001 * top / w;
+        let mut m: f64 = self.first_estimate(f0, top);
+        for _ in 0u32..10u32 {
+            let x = positive_part(self.c0 - self.c1 * m);
+            let f = self.felt_force(x);
+            let d: f64 = (m - f) / (1.0 + w * (f + ke) / x);
+            m = m - d;
+            if d * d < near * x {
+                return m;
+            }
+        }
+        m
+    }
+
+    // Whether a search by a guess may start. Then the felt's test is one of a threshold: what is too low stays too low
+    // further down.
+    fn may_guess(self, top: f64) -> bool
+        ensures { result ≡ true → AllModerate self.hammer self.eps_r self.c0 self.c1 top }
+    {
+        is_moderate(self.hammer.stiffness)
+            && is_moderate_or_zero(self.eps_r)
+            && is_moderate(self.c0)
+            && is_moderate(self.c1)
+            && is_moderate(top)
+    }
+
+    // Halvings by a guess. They went the felt's way throughout where it finds the low end that they leave too low and the
+    // high end not: then the force is found. Else the guess to try next is in the interval on the felt's side.
+    fn try_guess(self, top: f64, guess: f64) -> Result<f64, f64>
+        requires { AllModerate self.hammer self.eps_r self.c0 self.c1 top }
+        ensures { IfOk result (λ f. f ≡ bisect (too_low self.hammer self.eps_r self.c0 self.c1) 50 +0 top) }
+    {
+        if guess > 0.0 {
+            let ends = bisect_by_guess(guess, top);
+            if !self.is_too_low(ends.lo) {
+                Err(ends.lo)
+            } else if self.is_too_low(ends.hi) {
+                Err(ends.hi + 0.5 * (ends.hi - ends.lo))
+            } else {
+                Ok(0.5 * (ends.lo + ends.hi))
+            }
         } else {
-            hi = mid;
+            Err(0.0)
         }
     }
-    0.5 * (lo + hi)
 }
 
 fn choose(t: bool, a: f64, b: f64) -> f64
@@ -68,11 +147,12 @@ struct Interval {
 // Fifty halvings that ask whether the middle is below a guess of the force: no power at all. Each
 // end has a test of its own, so that the processor chooses without a branch.
 fn bisect_by_guess(guess: f64, top: f64) -> Interval
-    ensures { (result.lo ≡ low_by_guess guess 50 +0 top) × (result.hi ≡ high_by_guess guess 50 +0 top) }
+    ensures low { result.lo ≡ low_by_guess guess 50 +0 top }
+    ensures high { result.hi ≡ high_by_guess guess 50 +0 top }
 {
     let mut lo: f64 = 0.0;
     let mut hi: f64 = top;
-    for i in 0..50u32 {
+    for _ in 0..50u32 {
         let mid = 0.5 * (lo + hi);
         lo = choose(mid < guess, mid, lo);
         hi = choose(guess <= mid, mid, hi);
@@ -85,138 +165,44 @@ fn rough_root(y: f64, quarters: u32) -> f64 {
     let one: u64 = 0x3ff0_0000_0000_0000;
     if y > 0.0 {
         let bits = f64::to_bits(y);
-        if bits < one {
-            if 0 < quarters {
-                let fall = 4 * (one - bits) / (quarters as u64);
-                if fall < one {
-                    return f64::from_bits(one - fall);
-                }
+        if bits < one && 0 < quarters {
+            let fall = 4 * (one - bits) / (quarters as u64);
+            if fall < one {
+                return f64::from_bits(one - fall);
             }
         }
     }
     1.0
 }
 
-// Where the estimate starts. A felt that is soft beside the string: a Halley step from 0, where it pushes with f0. A
-// stiff one takes nearly the whole force c0 / c1; what is left of c0 is then about a root.
-fn first_estimate(hammer: Hammer, eps_r: f64, c0: f64, c1: f64, f0: f64, top: f64) -> f64 {
-    let quarters = quarters_of(hammer.exponent);
-    let p: f64 = 0.25 * (quarters as f64);
-    let u: f64 = c1 / c0;
-    let ke: f64 = hammer.stiffness * eps_r;
-    let s: f64 = u * p * (f0 + ke);
-    if s > 16.0 {
-        let left = rough_root((top + ke) / (f0 + ke), quarters);
-        return top - top * left;
-    }
-    f0 / (1.0 + s - 0.5 * s * (p - 1.0) * u * (f0 / (1.0 + s)))
-}
-
-// About the force, by Newton's steps, until the next would be less than an interval that fifty halvings leave. Nothing is
-// said of the result, since the felt's own test decides on it.
-fn estimate_force(hammer: Hammer, eps_r: f64, c0: f64, c1: f64, f0: f64, top: f64) -> f64 {
-    let w: f64 = c1 * (0.25 * (quarters_of(hammer.exponent) as f64));
-    let ke: f64 = hammer.stiffness * eps_r;
-    let near: f64 = 0.000000000000001 * top / w;
-    let mut m: f64 = first_estimate(hammer, eps_r, c0, c1, f0, top);
-    for i in 0u32..10u32 {
-        let x = positive_part(c0 - c1 * m);
-        let f = felt_force(hammer, eps_r, x);
-        let d: f64 = (m - f) / (1.0 + w * (f + ke) / x);
-        m = m - d;
-        if d * d < near * x {
-            return m;
-        }
-    }
-    m
-}
-
 // Above 0 and below 2^1000: a sum of two such numbers is finite.
 fn is_moderate(x: f64) -> bool
     ensures { result ≡ true → Moderate x }
 {
-    if x > 0.0 {
-        x < 1.0715086071862673e301
-    } else {
-        false
-    }
+    x > 0.0 && x < 1.0715086071862673e301
 }
 
 // The memory of a felt that was not compressed before is 0.
 fn is_moderate_or_zero(x: f64) -> bool
     ensures { result ≡ true → Moderate x ⊎ (eq x +0 ≡ true) }
 {
-    if x == 0.0 { true } else { is_moderate(x) }
+    x == 0.0 || is_moderate(x)
 }
 
-// Whether a search by a guess may start. Then the felt's test is one of a threshold: what is too low
-// stays too low further down.
-fn are_moderate(hammer: Hammer, eps_r: f64, c0: f64, c1: f64, top: f64) -> bool
-    ensures { result ≡ true → AllModerate hammer eps_r c0 c1 top }
-{
-    if is_moderate(hammer.stiffness) {
-        if is_moderate_or_zero(eps_r) {
-            if is_moderate(c0) {
-                if is_moderate(c1) {
-                    if is_moderate(top) {
-                        return true;
-                    }
-                }
-            }
-        }
-    }
-    false
-}
-
-// What a guess found; where nothing, the guess to try next.
+// How a force was found: one of the first two tests says that there is none, the first or the second
+// guess gave it, or the felt's own test halved. It is for benches, which know the ways as 0 to 3.
 #[derive(Clone, Copy)]
-struct Trial {
-    found: bool,
-    force: f64,
-    next: f64,
+pub enum Way {
+    NoForce = 0,
+    FirstGuess = 1,
+    SecondGuess = 2,
+    Halved = 3,
 }
 
-// Halvings by a guess. They went the felt's way throughout where it finds the low end that they leave
-// too low and the high end not; else the next guess is in the interval on the felt's side.
-fn try_guess(hammer: Hammer, eps_r: f64, c0: f64, c1: f64, top: f64, guess: f64) -> Trial
-    requires { AllModerate hammer eps_r c0 c1 top }
-    ensures { result.found ≡ true → result.force ≡ bisect (too_low hammer eps_r c0 c1) 50 +0 top }
-{
-    if guess > 0.0 {
-        let ends = bisect_by_guess(guess, top);
-        if too_low(hammer, eps_r, c0, c1, ends.lo) {
-            if too_low(hammer, eps_r, c0, c1, ends.hi) {
-                return Trial {
-                    found: false,
-                    force: 0.0,
-                    next: ends.hi + 0.5 * (ends.hi - ends.lo),
-                };
-            }
-            return Trial {
-                found: true,
-                force: 0.5 * (ends.lo + ends.hi),
-                next: 0.0,
-            };
-        }
-        return Trial {
-            found: false,
-            force: 0.0,
-            next: ends.lo,
-        };
-    }
-    Trial {
-        found: false,
-        force: 0.0,
-        next: 0.0,
-    }
-}
-
-// A force, and how it was found: trials is 0 where one of the first two tests answered, 1 or 2 where
-// the first or the second guess did, 3 where the felt's own test halved. It is for benches.
 #[derive(Clone, Copy)]
 pub struct Search {
     pub force: f64,
-    pub trials: u32,
+    pub way: Way,
 }
 
 // The force F at which the felt, compressed by c0 - c1 F, pushes with F: it falls as F grows, so
@@ -225,39 +211,49 @@ pub struct Search {
 pub fn search_force(hammer: Hammer, eps_r: f64, c0: f64, c1: f64) -> Search
     ensures { result.force ≡ force_of hammer eps_r c0 c1 }
 {
+    let contact = Contact {
+        hammer,
+        eps_r,
+        c0,
+        c1,
+    };
     if c0 <= 0.0 {
         return Search {
             force: 0.0,
-            trials: 0,
+            way: Way::NoForce,
         };
     }
-    let f0 = felt_force(hammer, eps_r, c0);
+    let f0 = contact.felt_force(c0);
     if f0 <= 0.0 {
         return Search {
             force: 0.0,
-            trials: 0,
+            way: Way::NoForce,
         };
     }
     let top: f64 = c0 / c1;
-    if are_moderate(hammer, eps_r, c0, c1, top) {
-        let guess = estimate_force(hammer, eps_r, c0, c1, f0, top);
-        let first = try_guess(hammer, eps_r, c0, c1, top, guess);
-        if first.found {
-            return Search {
-                force: first.force,
-                trials: 1,
-            };
-        }
-        let second = try_guess(hammer, eps_r, c0, c1, top, first.next);
-        if second.found {
-            return Search {
-                force: second.force,
-                trials: 2,
-            };
+    if contact.may_guess(top) {
+        let guess = contact.estimate_force(f0, top);
+        match contact.try_guess(top, guess) {
+            Ok(force) => {
+                return Search {
+                    force,
+                    way: Way::FirstGuess,
+                };
+            }
+            Err(next) => {
+                if let Ok(force) = contact.try_guess(top, next) {
+                    return Search {
+                        force,
+                        way: Way::SecondGuess,
+                    };
+                }
+            }
         }
     }
-    let force = bisect_force(hammer, eps_r, c0, c1, top);
-    Search { force, trials: 3 }
+    Search {
+        force: contact.bisect_force(top),
+        way: Way::Halved,
+    }
 }
 
 // The force alone. For c0 and c1 finite and above 0, with c0 / c1 at most half the largest f64, it lies
@@ -265,6 +261,5 @@ pub fn search_force(hammer: Hammer, eps_r: f64, c0: f64, c1: f64) -> Search
 pub fn contact_force(hammer: Hammer, eps_r: f64, c0: f64, c1: f64) -> f64
     ensures { (result ≡ force_of hammer eps_r c0 c1) × ForceBound c0 c1 result }
 {
-    let search = search_force(hammer, eps_r, c0, c1);
-    search.force
+    search_force(hammer, eps_r, c0, c1).force
 }

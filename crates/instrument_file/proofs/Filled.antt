@@ -1,6 +1,6 @@
 -- The loops that fill the record's arrays: what stands in them at each turn. Assumes nothing.
-use mathlib.Core.Path.{◌≡◌, refl, sym, ap, ◌∙◌, subst}
-use mathlib.Core.List.{List, [], ◌∷◌, ◌++◌}
+use mathlib.Core.Path.{◌≡◌, refl, sym, ap, ◌∙◌}
+use mathlib.Core.List.{List, ◌++◌}
 use Prim.Native.Nat.{ℕ, ◌+◌, ◌≤◌, ◌<◌}
 use native.Mathlib.Omega.{arith}
 use lib.ListN.{length, replicate, set, take, drop, length-set}
@@ -13,7 +13,6 @@ use borrow.Rule.Slice.PartMut.{put_mid}
 use Rattle.little_endian.specs.Numbers.{byte_at}
 use Rattle.instrument_fields.specs.declared.KeyDesign.{KeyDesign}
 use Rattle.instrument_fields.specs.declared.LoopDesign.{LoopDesign}
-use Rattle.instrument_fields.specs.Fields.{key_of}
 use Rattle.instrument_fields.specs.Unused.{no_key, no_string}
 use Rattle.counting.specs.Below.{tabulate, gather, pad}
 use Rattle.counting.specs.Laws.{tabulate_more, length_tabulate, gather_more, pad_sets}

@@ -1,5 +1,5 @@
 -- The record that a file gives, place by place. Assumes nothing.
-use Rattle.std.specs.Prelude.{◌≡◌, true, List, ℕ, ◌≤◌, ◌<◌, length, get_or}
+use Rattle.std.specs.Prelude.{◌≡◌, refl, true, List, ℕ, ◌≤◌, ◌<◌, length, get_or, Result, Ok, Err}
 use Rattle.std.proofs.Common.{sym, ◌∙◌, subst, arith}
 use Rattle.std.proofs.Math.Path.{ap}
 use borrow.Author.Tests.{leb-true}
@@ -12,8 +12,16 @@ use Rattle.instrument_fields.specs.Ranges.{key_in_range}
 use Rattle.instrument_fields.specs.Unused.{no_key}
 use Rattle.counting.specs.Below.{sum_below, tabulate, pad}
 use Rattle.counting.specs.Laws.{all_at, all_build, sum_cong, length_tabulate, get_d_tabulate, length_gather, pad_first}
-use Rattle.instrument_file.specs.File.{headed, key_section, loop_in, fielded_key, fielded, keys_in, strings_in}
+use Rattle.refusal.specs.declared.Refusal.{Refusal}
+use Rattle.refusal.specs.Refusal.{number_in, number_not_zero}
+use Rattle.instrument.specs.declared.Instrument.{Instrument}
+use Rattle.instrument_file.specs.File.{accepted, instrument_in, headed, key_section, loop_in, fielded_key, fielded, keys_in, strings_in}
 use Rattle.instrument.specs.Valid.{past_key, key_at, keys_in_range, string_sum}
+
+-- an answer that refuses nothing is that of an accepted file
+pub accepted_in : (a : Result Instrument Refusal) → number_in a ≡ 0 → a ≡ accepted (instrument_in a)
+accepted_in (Ok i) z = refl
+accepted_in (Err e) z = absurd (number_not_zero e z)
 
 -- D of a headed file
 module _ (f : List ℕ) (h : headed f ≡ true) where

@@ -13,8 +13,8 @@ ghost use Rattle.instrument_file.specs.File.{offset_of, length_of, section, key_
 
 use instrument::{Instrument, keys_apart, string_sum};
 use instrument_fields::{
-    KeyDesign, LoopDesign, common_in_range, key_in_range, no_key, no_string,
-    read_common, read_key, read_loop, string_in_range,
+    KeyDesign, LoopDesign, common_in_range, key_in_range, no_key, no_string, read_common, read_key,
+    read_loop, string_in_range,
 };
 use little_endian::{byte_at, part, u32_at};
 use refusal::Refusal;

@@ -1,14 +1,13 @@
 -- The whole file and the call's promise. Assumes nothing.
 use mathlib.Core.Path.{◌≡◌, refl, sym, ap, ◌∙◌}
-use mathlib.Core.Bool.{Bool, true, false, not, cond}
+use mathlib.Core.Bool.{Bool, true, false}
 use mathlib.Core.List.{List, ◌++◌}
-use Prim.Native.Nat.{ℕ, ◌+◌, ◌*◌, ◌≤◌}
+use Prim.Native.Nat.{ℕ, ◌+◌, ◌*◌, ◌≤◌, ◌<◌}
 use native.Mathlib.Nat.{zero-add}
 use native.Mathlib.Omega.{arith}
-use lib.Dec.{ltb}
 use lib.ListN.{length, take, drop}
 use lib.Seq.{sets, sets-eq, take-append_seam}
-use borrow.Author.Tests.{ltb-false}
+use borrow.Author.Tests.{lt-ltb, le-ltb}
 use Rattle.little_endian.specs.Stores.{stored_then}
 use Rattle.counting.specs.Below.{gather}
 use Rattle.counting.specs.Meets.{meets_refused, meets_accepted}
@@ -18,8 +17,10 @@ use Rattle.instrument_file.specs.File.{read_of}
 use Rattle.instrument_encoding.specs.Encode.{section_bytes, encode}
 use Rattle.instrument_encoding.proofs.Rewritten.{read_encode}
 use Rattle.instrument_encoding.specs.Files.{GivenTest}
-use Rattle.instrument_writer.specs.Pieces.{table_bytes, table_sections, counted_length, length_counted}
-use Rattle.instrument_writer.specs.Write.{write_refusal, not_written, wrote, WriteMeets}
+use Rattle.instrument_writer.specs.Pieces.{table_bytes, table_sections}
+use Rattle.std.specs.Prelude.{Ok, Err}
+use Rattle.refusal.specs.declared.Refusal.TheVariants.{Record, FileRoom}
+use Rattle.instrument_writer.specs.Write.{write_refusal, wrote, WriteMeets}
 use Rattle.instrument_writer.proofs.Loops.{table_length}
 
 module _ (i : Instrument) where
@@ -32,62 +33,41 @@ module _ (i : Instrument) where
       let size = 12 + 8 * n in
       stored_then l l₁ l₂ (table_bytes i) (gather (n + 1) (section_bytes i)) 0 size size (table_length i) (sym (zero-add size)) e g ∙ ap (sets l 0) (table_sections i)
 
-  module _ (room : ℕ) (z : write_refusal i room ≡ 0) where
-    -- a call that is not refused has a valid record
-    is_valid : valid i ≡ true
+  -- a call that was told `given`
+  module _ (bytes : List ℕ) (given : Bool) (test : GivenTest i given) where
+    wrong_is : given ≡ false → 7 ≡ write_refusal i (length bytes)
     unfolding write_refusal
-    is_valid = by_valid (valid i) refl
-      where
-        by_valid : (t : Bool) → valid i ≡ t → valid i ≡ true
-        by_valid true e = e
-        by_valid false e = let q : ◌≡◌ {A = ℕ} 7 0 = rw e at z in absurd (omega arith)
+    wrong_is h = rw (sym test.answer ∙ h)
 
-    -- and room for the file
-    has_room : length (encode i) ≤ room
-    unfolding write_refusal
-    has_room = by_room (ltb room (length (encode i))) refl
-      where
-        by_room : (t : Bool) → ltb room (length (encode i)) ≡ t → length (encode i) ≤ room
-        by_room true e = let q : ◌≡◌ {A = ℕ} 20 0 = rw (is_valid, e) at z in absurd (omega arith)
-        by_room false e = ltb-false room (length (encode i)) e
+    pub call_wrong : given ≡ false → WriteMeets i bytes (Err Record) bytes
+    call_wrong h = meets_refused 7 (wrong_is h) (λ z. omega arith) (refl, refl)
 
-  -- a call that was told `given` and `len`, and found `number` by them
-  module _ (bytes : List ℕ) (given : Bool) (len number : ℕ) (test : GivenTest i given) (size : len ≡ counted_length n i.string_count)
-      (found : number ≡ cond (not given) 7 (cond (ltb (length bytes) len) 20 0)) where
-    by_test : (t : Bool) → valid i ≡ t → cond (not t) 7 (cond (ltb (length bytes) (counted_length n i.string_count)) 20 0) ≡ write_refusal i (length bytes)
-    unfolding write_refusal
-    by_test true v = rw (v, length_counted i v)
-    by_test false v = rw v
+    -- and found the file's length
+    module _ (v : valid i ≡ true) (len : ℕ) (size : len ≡ length (encode i)) where
+      short_is : length bytes < len → 20 ≡ write_refusal i (length bytes)
+      unfolding write_refusal
+      short_is h = rw (v, lt-ltb (length bytes) (length (encode i)) (omega (arith, size)))
 
-    -- it is the promised number: where the record is wrong, its length does not matter
-    number_is : number ≡ write_refusal i (length bytes)
-    number_is = found ∙ ap (λ (x : ℕ). cond (not given) 7 (cond (ltb (length bytes) x) 20 0)) size ∙ by_test given (sym test.answer)
+      pub call_short : length bytes < len → WriteMeets i bytes (Err FileRoom) bytes
+      call_short h = meets_refused 20 (short_is h) (λ z. omega arith) (refl, refl)
 
-    pub call_refused : (number ≡ 0 → ⊥) → WriteMeets i bytes (not_written number) bytes
-    call_refused h = meets_refused number number_is h (refl, refl)
+      room_is : len ≤ length bytes → 0 ≡ write_refusal i (length bytes)
+      unfolding write_refusal
+      room_is h = rw (v, le-ltb (length bytes) (length (encode i)) (omega (arith, size)))
 
-    module _ (z : number ≡ 0) where
-      none : write_refusal i (length bytes) ≡ 0
-      none = sym number_is ∙ z
-
-      pub may_store : (valid i ≡ true) × (length (encode i) ≤ length bytes)
-      may_store = (is_valid (length bytes) none, has_room (length bytes) none)
-
-      pub call_writes : (bytes' : List ℕ) → bytes' ≡ sets bytes 0 (encode i) → WriteMeets i bytes (wrote len) bytes'
-      call_writes bytes' e =
+      pub call_writes : len ≤ length bytes → (bytes' : List ℕ) → bytes' ≡ sets bytes 0 (encode i) → WriteMeets i bytes (Ok len) bytes'
+      call_writes h bytes' e =
           let f = encode i in
-          let v = is_valid (length bytes) none in
           let by = test.every (test.answer ∙ v) in
           let same = read_encode by.file by.bytes i by.reads in
-          let whole : len ≡ length f = size ∙ length_counted i v in
-          let room = has_room (length bytes) none in
-          let file : bytes' ≡ f ++ drop (length f) bytes = e ∙ sets-eq f bytes 0 (omega arith) ∙ ap (λ (k : ℕ). f ++ drop k bytes) (zero-add (length f)) in
-          meets_accepted number number_is z
+          let file : bytes' ≡ f ++ drop (length f) bytes =
+          e ∙ sets-eq f bytes 0 (omega (arith, size)) ∙ ap (λ (k : ℕ). f ++ drop k bytes) (zero-add (length f)) in
+          meets_accepted 0 (room_is h) refl
           (record {
-            answer = ap wrote whole;
+            answer = ap wrote size;
             file = file;
             back =
-                ap (λ (k : ℕ). read_of (take k bytes')) whole
+                ap (λ (k : ℕ). read_of (take k bytes')) size
                 ∙ ap (λ (x : List ℕ). read_of (take (length f) x)) file
                 ∙ ap read_of (take-append_seam f (drop (length f) bytes) ∙ same)
                 ∙ by.reads;

@@ -6,8 +6,9 @@ use Rattle.little_endian.specs.Bytes.{Bytes}
 use Rattle.instrument.specs.declared.Instrument.{Instrument}
 use Rattle.instrument.specs.Valid.{valid}
 use Rattle.refusal.specs.declared.Refusal.{Refusal}
-use Rattle.refusal.specs.Refusal.{number_in}
+use Rattle.refusal.specs.Refusal.{numbered, number_in, number_not_zero}
 use Rattle.instrument_file.specs.File.{accepted, instrument_in, read_of}
+use Rattle.instrument_file.specs.FileLaws.{accepted_in}
 use Rattle.instrument_encoding.specs.Encode.{encode}
 use Rattle.instrument_encoding.specs.Accepted.{accepted_valid}
 use Rattle.instrument_encoding.proofs.Rewritten.{read_encode}
@@ -20,7 +21,7 @@ module _ (bytes bytes' : List ℕ) (w : Result ℕ Refusal) (a : Result Instrume
     where
       by_number : (n : ℕ) → write_refusal i (length bytes) ≡ n → write_refusal i (length bytes) ≡ 0
       by_number zero e = e
-      by_number (suc n) e = let q = ap (λ (x : WriteAnswer). x.refusal) (write.refuses (λ o. omega arith)).0 in omega arith
+      by_number (suc n) e = absurd (number_not_zero (numbered (write_refusal i (length bytes))) (sym (ap number_in (write.refuses (λ o. omega arith)).0) ∙ z))
 
   -- THE LAW: "Reading what it wrote gives the same record"
   pub written_read : (i : Instrument) → WriteMeets i bytes w bytes' → number_in w ≡ 0 → a ≡ read_of (take (length_in w) bytes') → a ≡ accepted i
@@ -34,8 +35,8 @@ module _ (bytes bytes' : List ℕ) (w : Result ℕ Refusal) (a : Result Instrume
   pub read_written : (f : List ℕ) → Bytes f → a ≡ read_of f → number_in a ≡ 0 → WriteMeets (instrument_in a) bytes w bytes' → length f ≤ length bytes
       → (w ≡ wrote (length f)) × (bytes' ≡ f ++ drop (length f) bytes)
   read_written f ok read z write room =
-      let i = a.instrument in
-      let is : read_of f ≡ accepted i = sym read ∙ ap (λ (n : ℕ). record { refusal = n; instrument = i }) z in
+      let i = instrument_in a in
+      let is : read_of f ≡ accepted i = sym read ∙ accepted_in a z in
       let same = read_encode f ok i is in
       let met = write.accepts (room_for i (accepted_valid f i is) (subst (λ (x : List ℕ). length x ≤ length bytes) (sym same) room)) in
       (met.answer ∙ ap (λ (x : List ℕ). wrote (length x)) same, met.file ∙ ap (λ (x : List ℕ). x ++ drop (length x) bytes) same)

@@ -8,7 +8,7 @@ ghost use Rattle.counting.specs.Below.{gather};
 ghost use Rattle.little_endian.specs.Numbers.{le16, le32, le_f64};
 ghost use Rattle.instrument.specs.Valid.{string_at, valid};
 ghost use Rattle.instrument_encoding.specs.Encode.{common_bytes, string_bytes, head_bytes, key_bytes, section_bytes, encode};
-ghost use Rattle.instrument_writer.specs.Pieces.{pair_bytes, table_bytes, counted_length};
+ghost use Rattle.instrument_writer.specs.Pieces.{pair_bytes, table_bytes};
 ghost use Rattle.instrument_writer.specs.Write.{WriteMeets};
 
 use instrument::Instrument;

@@ -1,29 +1,18 @@
 -- Document 01, "One sample": "dampers", and of the "bridge" each key's speed, as in `render`. Definitions only.
-use Rattle.std.specs.Prelude.{◌≡◌, List, ◌≢◌, Bool, cond, ℕ, ◌+◌, ◌*◌, length, get_or, set, replicate, Float}
+use Rattle.std.specs.Prelude.{List, Bool, cond, ℕ, get_or, set, replicate, Float}
 use Rattle.std.specs.Float.{nan, binary64}
 use Rattle.std.specs.Float.Ieee.{add, sub, mul, div, neg}
 use Rattle.float.specs.Float.{clamp_of, two, zero as +0}
-use Rattle.cells.specs.Numbered.{list_from, fold_from}
+use Rattle.cells.specs.Numbered.{fold_from}
 use Rattle.string.specs.declared.StringDesign.{StringDesign}
 use Rattle.keys.specs.declared.KeyConstants.{KeyConstants}
 
--- the keys of a table, four numbers a key
-unfoldable pub constants_at : List Float → ℕ → KeyConstants
-constants_at table k = record {
-  weight = get_or table (k * 4) nan;
-  r_max = get_or table (k * 4 + 1) nan;
-  step = get_or table (k * 4 + 2) nan;
-  divisor = get_or table (k * 4 + 3) nan;
-}
+-- key k; what stands past the end of a list is never asked
+abbrev pub past_constants : KeyConstants
+past_constants = record { weight = nan; r_max = nan; step = nan; divisor = nan }
 
--- key k's constants in the table are x, and the others' are as they were
-pub record ConstantsPut (k : ℕ) (x : KeyConstants) (table table' : List Float) : Type 0 where
-  pub here : constants_at table' k ≡ x
-  pub other : (j : ℕ) → j ≢ k → constants_at table' j ≡ constants_at table j
-  pub long : length table' ≡ length table
-
-abbrev pub keys_of : List Float → ℕ → List KeyConstants
-keys_of table n = list_from (constants_at table) 0 n
+abbrev pub constants_at : List KeyConstants → ℕ → KeyConstants
+constants_at keys k = get_or keys k past_constants
 
 -- a damper goes towards r_max where it is to be down, towards +0 else, by a step at most
 unfoldable pub damped_of : KeyConstants → Bool → Float → Float

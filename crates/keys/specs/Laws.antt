@@ -1,46 +1,21 @@
--- What a store of a key's constants leaves; and what dampers and sums read: rules that agree on the keys there are move the dampers alike, and values past the strings' own play no part.
+-- What dampers and sums read: rules that agree on the keys there are move the dampers alike, and values past the strings' own play no part.
 use Rattle.float.specs.Float.{zero as +0}
-use Rattle.std.specs.Prelude.{◌≡◌, List, [], ◌∷◌, ◌++◌, Bool, ◌≢◌, ℕ, ◌+◌, ◌*◌, ◌≤◌, ◌<◌, length, get_or, replicate, Float}
+use Rattle.std.specs.Prelude.{◌≡◌, List, ◌++◌, Bool, ℕ, ◌≤◌, ◌<◌, length, get_or, replicate, Float}
 use Rattle.std.proofs.Math.Path.{ap}
-use Rattle.std.proofs.Common.{arith}
+use Rattle.std.proofs.Common.{◌∙◌, arith}
 use Rattle.std.proofs.Math.ListN.{set, get_or-append}
 use Rattle.std.specs.Float.Ieee.{nan, binary64, add}
-use Rattle.cells.specs.Numbered.{fold_same}
+use Rattle.cells.specs.Numbered.{fold_from, fold_same, Folded, folded_end}
+use Rattle.string.specs.Table.{list_of}
 use Rattle.string.specs.declared.StringDesign.{StringDesign}
-use Rattle.string.specs.Put.{put_from, put_other, put_first, put_next, put_from_length}
 use Rattle.keys.specs.declared.KeyConstants.{KeyConstants}
-use Rattle.keys.specs.Keys.{constants_at, ConstantsPut, damped_of, dampers, sums_from, bridge_speeds}
+use Rattle.keys.specs.Keys.{damped_of, dampers, sums_from, bridge_speeds}
 
--- key k's constants stored in the table
-module _ (k : ℕ) (x : KeyConstants) (l : List Float) (fits : k * 4 + 3 < length l) where
-  abbrev pub put_constants : List Float
-  put_constants = put_from (k * 4) x.weight (x.r_max ∷ x.step ∷ x.divisor ∷ []) l
-
-  constant_other : (m : ℕ) → ((n : ℕ) → n ≤ 3 → m ≢ k * 4 + n) → get_or put_constants m nan ≡ get_or l m nan
-  constant_other = put_other nan (k * 4) x.weight (x.r_max ∷ x.step ∷ x.divisor ∷ []) l
-
-  constant_at : (n : ℕ) → n < 3 → get_or put_constants (k * 4 + (1 + n)) nan ≡ get_or (x.r_max ∷ x.step ∷ x.divisor ∷ []) n nan
-  constant_at n h = put_next nan (k * 4) x.weight (x.r_max ∷ x.step ∷ x.divisor ∷ []) l n h fits
-
-  pub constants_put : ConstantsPut k x l put_constants
-  unfolding constants_at
-  constants_put = record {
-    here =
-        rw (
-          put_first nan (k * 4) x.weight (x.r_max ∷ x.step ∷ x.divisor ∷ []) l (omega arith),
-          constant_at 0 (omega arith),
-          constant_at 1 (omega arith),
-          constant_at 2 (omega arith),
-        );
-    other = λ j h.
-        rw (
-          constant_other (j * 4) (λ n q e. h (omega arith)),
-          constant_other (j * 4 + 1) (λ n q e. h (omega arith)),
-          constant_other (j * 4 + 2) (λ n q e. h (omega arith)),
-          constant_other (j * 4 + 3) (λ n q e. h (omega arith)),
-        );
-    long = put_from_length (k * 4) x.weight (x.r_max ∷ x.step ∷ x.divisor ∷ []) l;
-  }
+-- past the last item of a list, what a loop over it carries is what the whole list gives
+pub folded_list : {D A : Type 0} (xs : List D) (d₀ : D) (h : ℕ → D → A → A) (a₀ a : A) (i : ℕ)
+    → Folded (λ (k : ℕ). get_or xs k d₀) h (length xs) a₀ a i → length xs ≤ i → a ≡ fold_from h 0 xs a₀
+folded_list xs d₀ h a₀ a i r past =
+    folded_end (λ (k : ℕ). get_or xs k d₀) h (length xs) a₀ a i r past ∙ ap (λ ds. fold_from h 0 ds a₀) (list_of xs d₀)
 
 pub dampers_same : (keys : List KeyConstants) (down up : ℕ → Bool) (R : List Float) → ((k : ℕ) → k < length keys → down k ≡ up k) → dampers keys down R ≡ dampers keys up R
 unfolding dampers

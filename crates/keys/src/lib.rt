@@ -1,12 +1,12 @@
 // The keys: their dampers' moves, and the speeds at the bridge that their strings' sums give.
 #![tactic(auto)]
 
-ghost use Rattle.std.specs.Prelude.{◌≡◌, ◌≤◌, ◌<◌, false, length, get_or};
-ghost use Rattle.string.specs.Table.{table_strings};
+ghost use Rattle.std.specs.Prelude.{◌≡◌, ◌≤◌, false, length, get_or};
 ghost use Rattle.strings.specs.Strings.{AllFit};
-ghost use Rattle.keys.specs.Keys.{constants_at, ConstantsPut, keys_of, damped_of, dampers, sums_from, weighted_total, speed_of, speeds};
+ghost use Rattle.keys.specs.Keys.{damped_of, dampers, sums_from, weighted_total, speed_of, speeds};
 
 use float::clamp;
+use string::StringDesign;
 
 // A key's numbers: its weight, the damper's full resistance and its step a sample, and 1 + yz n for its n strings.
 #[derive(Clone, Copy)]
@@ -17,98 +17,60 @@ pub struct KeyConstants {
     pub divisor: f64,
 }
 
-// Key k of the table, four numbers a key.
-pub fn constants_at(table: &[f64; 64], k: usize) -> KeyConstants
-    requires { k < 16 }
-    ensures { result ≡ constants_at table.now k }
-{
-    let j = k * 4;
-    KeyConstants {
-        weight: table[j],
-        r_max: table[j + 1],
-        step: table[j + 2],
-        divisor: table[j + 3],
-    }
-}
-
-// The table with x as key k's.
-pub fn put_constants(table: &mut [f64; 64], k: usize, x: KeyConstants)
-    requires { (length table.old ≡ 64) × (k < 16) }
-    ensures { ConstantsPut k x table.old table.new }
-{
-    let j = k * 4;
-    table[j] = x.weight;
-    table[j + 1] = x.r_max;
-    table[j + 2] = x.step;
-    table[j + 3] = x.divisor;
-}
-
+#[tactic(auto, unfolding(crate::specs::Keys::damped_of))]
 fn damper_after(key: KeyConstants, down: bool, damper_r: f64) -> f64
     ensures { result ≡ damped_of key down damper_r }
 {
-    if down {
-        damper_r + clamp(key.r_max - damper_r, -key.step, key.step)
-    } else {
-        damper_r + clamp(0.0 - damper_r, -key.step, key.step)
-    }
+    let goal = if down { key.r_max } else { 0.0 };
+    damper_r + clamp(goal - damper_r, -key.step, key.step)
 }
 
-// Each of the first n keys' dampers moves towards where it is to be.
-pub fn move_dampers(table: &[f64; 64], down: &[bool; 16], damper_r: &mut [f64; 16], n: usize)
-    requires { n ≤ 16 }
-    ensures { damper_r.new ≡ dampers (keys_of table.now n) (λ k. get_or down.now k false) damper_r.old }
+// Each key's damper moves towards where it is to be.
+pub fn move_dampers(keys: &[KeyConstants], down: &[bool; 16], damper_r: &mut [f64; 16])
+    requires { length keys.now ≤ 16 }
+    ensures { damper_r.new ≡ dampers keys.now (λ k. get_or down.now k false) damper_r.old }
 {
-    for k in 0..n {
-        let key = constants_at(table, k);
-        damper_r[k] = damper_after(key, down[k], damper_r[k]);
+    for (k, key) in keys.iter().enumerate() {
+        damper_r[k] = damper_after(*key, down[k], damper_r[k]);
     }
 }
 
 // Each string's v_in is added to its key's sum.
-pub fn sum_keys(
-    v_in: &[f64],
-    sums: &mut [f64; 16],
-    lengths: &[usize; 160],
-    coefficients: &[f64; 128],
-    n: usize,
-)
-    requires all_fit { AllFit lengths.now coefficients.now n }
-    requires n_in_bounds { n ≤ length v_in.now }
-    ensures { sums.new ≡ sums_from (table_strings lengths.now coefficients.now n) v_in.now sums.old }
+pub fn sum_keys(v_in: &[f64], designs: &[StringDesign], sums: &mut [f64; 16])
+    requires all_fit { AllFit designs.now }
+    requires has_v_in { length designs.now ≤ length v_in.now }
+    ensures { sums.new ≡ sums_from designs.now v_in.now sums.old }
 {
-    for i in 0..n {
-        let d = string::design_at(lengths, coefficients, i);
-        let k = d.key;
-        sums[k] = sums[k] + v_in[i];
+    for (i, d) in designs.iter().enumerate() {
+        sums[d.key] = sums[d.key] + v_in[i];
     }
 }
 
-// The first n keys' sums, each times its weight.
-pub fn weighted_total(table: &[f64; 64], sums: &[f64; 16], n: usize) -> f64
-    requires { n ≤ 16 }
-    ensures { result ≡ weighted_total (keys_of table.now n) sums.now }
+// The keys' sums, each times its key's weight.
+pub fn weighted_total(keys: &[KeyConstants], sums: &[f64; 16]) -> f64
+    requires { length keys.now ≤ 16 }
+    ensures { result ≡ weighted_total keys.now sums.now }
 {
     let mut total = 0.0;
-    for k in 0..n {
-        let key = constants_at(table, k);
+    for (k, key) in keys.iter().enumerate() {
         total = total + key.weight * sums[k];
     }
     total
 }
 
+#[tactic(auto, unfolding(crate::specs::Keys::speed_of))]
 fn bridge_speed(key: KeyConstants, yz: f64, total: f64, s_key: f64) -> f64
     ensures { result ≡ speed_of yz total key s_key }
 {
     2.0 * yz * (s_key + key.weight * (total - key.weight * s_key)) / key.divisor
 }
 
-// Each of the first n keys' speed at the bridge, in the place of its sum.
-pub fn bridge_speeds(table: &[f64; 64], yz: f64, total: f64, sums: &mut [f64; 16], n: usize)
-    requires { n ≤ 16 }
-    ensures { sums.new ≡ speeds yz total (keys_of table.now n) sums.old }
+// Each key's speed at the bridge, in the place of its sum.
+pub fn bridge_speeds(keys: &[KeyConstants], yz: f64, total: f64, sums: &mut [f64; 16])
+    requires { length keys.now ≤ 16 }
+    ensures { sums.new ≡ speeds yz total keys.now sums.old }
 {
-    for k in 0..n {
-        let key = constants_at(table, k);
-        sums[k] = bridge_speed(key, yz, total, sums[k]);
+    for (k, key) in keys.iter().enumerate() {
+        sums[k] = bridge_speed(*key, yz, total, sums[k]);
     }
 }

@@ -7,7 +7,7 @@ use lib.Ieee.{Float, nan, inf, fin, binary64, is_nan, of_bits}
 use lib.Ieee.Bits.{nan_bits_is, nan_bits_above}
 use borrow.Author.Tests.{lt-ltb}
 
-nan_is : (v : Float) → is_nan v ≡ true → nan ≡ v
+pub nan_is : (v : Float) → is_nan v ≡ true → nan ≡ v
 unfolding is_nan
 nan_is nan h = refl
 nan_is (inf s) h = absurd (subst T (sym h) tt)

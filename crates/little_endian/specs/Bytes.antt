@@ -87,14 +87,16 @@ module _ (b : List ℕ) (ok : Bytes b) where
   le32_part p h =
       let x = u16_at b p in
       let y = u16_at b (p + 2) in
-      both (ap le16 (low_32 x y (u16_below p)) ∙ le16_part p (omega arith)) (ap le16 (high_32 x y (u16_below p)) ∙ le16_part (p + 2) (omega arith)) ∙ join b p 2 2
+      both (ap le16 (low_32 x y (u16_below p)) ∙ le16_part p (omega arith)) (ap le16 (high_32 x y (u16_below p)) ∙ le16_part (p + 2) (omega arith))
+      ∙ join b p 2 2
 
   pub le64_part : (p : ℕ) → p + 8 ≤ length b → le64 (u64_at b p) ≡ take 8 (drop p b)
   unfolding le64 u64_at
   le64_part p h =
       let x = u32_at b p in
       let y = u32_at b (p + 4) in
-      both (ap le32 (low_64 x y (u32_below p)) ∙ le32_part p (omega arith)) (ap le32 (high_64 x y (u32_below p)) ∙ le32_part (p + 4) (omega arith)) ∙ join b p 4 4
+      both (ap le32 (low_64 x y (u32_below p)) ∙ le32_part p (omega arith)) (ap le32 (high_64 x y (u32_below p)) ∙ le32_part (p + 4) (omega arith))
+      ∙ join b p 4 4
 
   pub f64_part : (p : ℕ) → p + 8 ≤ length b → T (not (is_nan (f64_at b p))) → le_f64 (f64_at b p) ≡ take 8 (drop p b)
   unfolding le_f64 f64_at

@@ -108,15 +108,14 @@ pub fn strike_string(
     ensures { (result ≡ (contact_at c hammer d (reads_of d t part.old) part.old).force)
         × (part.new ≡ turned c hammer damper_r d t part.old) }
 {
-    let y = string::at_y_s(d);
-    let m = string::at_memory(d);
+    let at = d.layout();
     let r = string::read_string(part, d, x, t);
-    let y_s = part[y];
-    let touch = feel(c, hammer, d.key, y_s, part[m], r);
+    let y_s = part[at.y_s];
+    let touch = feel(c, hammer, d.key, y_s, part[at.memory], r);
     let inject_h = touch.force / c.two_z;
     let inject_d = inject(c, damper_r, r);
-    part[m] = touch.memory;
-    part[y] = y_s + c.dt * (r.a + r.b + inject_h);
+    part[at.memory] = touch.memory;
+    part[at.y_s] = y_s + c.dt * (r.a + r.b + inject_h);
     string::write_string(part, d, x, t, r, inject_h, inject_d);
     touch.force
 }

@@ -44,7 +44,8 @@ halves_more x r word t l n m q =
     let j = word - 4 in
     let a : word ≡ suc (suc (suc (suc j))) = omega arith in
     let b : word - 2 ≡ suc (suc j) = omega arith in
-    ap (λ (y : Float). mul binary64 y x) (q ∙ in_halves x (word - 2) t (omega arith) ∙ ap (halves_above x) b) ∙ sym (in_halves x word t m ∙ ap (halves_above x) a)
+    ap (λ (y : Float). mul binary64 y x) (q ∙ in_halves x (word - 2) t (omega arith) ∙ ap (halves_above x) b)
+    ∙ sym (in_halves x word t m ∙ ap (halves_above x) a)
 
 -- ---- quarters
 

@@ -1,4 +1,5 @@
--- The power is not negative and grows with its operand, for every word, on the finite values from 0 on: each step is a product or a root, which do. The word names a count of quarters
+-- The power is not negative and grows with its operand, for every word, on the finite values from 0 on: each step is a
+-- product or a root, which do. The word names a count of quarters
 -- (specs/Laws.antt), so it is said of those. Assumes nothing.
 use Rattle.std.specs.Prelude.{◌≡◌, refl, Bool, true, false, cond, T, Float}
 use Rattle.std.proofs.Common.{sym, subst}
@@ -6,7 +7,8 @@ use Prim.Native.Nat.{ℕ, zero, suc}
 use Rattle.std.specs.Float.{nan, inf, fin}
 use Rattle.std.specs.Float.Ieee.{binary64, mul, lt, le, fits, is_nan}
 use Rattle.std.specs.Float.Ieee.Positive.{positive}
-use Rattle.float.specs.Order.{nonneg, finite_nonneg, nought, zero_is, finite_nonneg_lem, positive_finite, nought_least, above_positive, no_less, mul_nonneg, mul_mono}
+use Rattle.float.specs.Order.{nonneg, finite_nonneg, nought, zero_is, finite_nonneg_lem, positive_finite, nought_least, above_positive}
+use Rattle.float.specs.Order.{no_less, mul_nonneg, mul_mono}
 use Rattle.root.specs.Root.{root_of}
 use Rattle.root.proofs.Monotone.{root_fits, root_positive, root_mono}
 use Rattle.power.specs.Power.{quarters_above, power_of, quarters_of}

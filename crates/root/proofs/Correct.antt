@@ -1,5 +1,8 @@
 -- `root_of` is correctly rounded, at every number above zero. Assumes nothing.
-use Rattle.std.proofs.Common.{◌≡◌, ℕ, zero, suc, ◌+◌, ◌-◌, ◌*◌, ◌/◌, ◌%◌, ◌^◌, ◌<◌, ◌≤◌, true, false, T, ◌⊎◌, sym, refl, ap, ◌∙◌, subst, inl, inr, le_trans, le_of_eq, lt_of_lt_of_le, lt_of_le_of_lt, le_of_lt, lt_irrefl, mul-le-mul_right, zero-lt-suc, mul_assoc, add-mul, eq-zero-or-pos, mul-le-mul, lt_of_mul-lt-mul_right, eq-or-lt_of_le, mul-lt-mul_of_pos_right, mul-pos, zero-mul, arith, ltb→lt, lt→ltb, pow_pos, pow_mono, pow-add, shl_lt}
+use Rattle.std.proofs.Common.{◌≡◌, ℕ, zero, suc, ◌+◌, ◌-◌, ◌*◌, ◌/◌, ◌%◌, ◌^◌, ◌<◌, ◌≤◌, true, false, T, ◌⊎◌, sym, refl, ap, ◌∙◌, subst}
+use Rattle.std.proofs.Common.{inl, inr, le_trans, le_of_eq, lt_of_lt_of_le, lt_of_le_of_lt, le_of_lt, lt_irrefl, mul-le-mul_right}
+use Rattle.std.proofs.Common.{zero-lt-suc, mul_assoc, add-mul, eq-zero-or-pos, mul-le-mul, lt_of_mul-lt-mul_right, eq-or-lt_of_le}
+use Rattle.std.proofs.Common.{mul-lt-mul_of_pos_right, mul-pos, zero-mul, arith, ltb→lt, lt→ltb, pow_pos, pow_mono, pow-add, shl_lt}
 use native.Mathlib.Nat.{mul-mul-mul_comm, eq_of_mul-eq-mul_right}
 use native.Mathlib.Nat.{mul-lt-mul_of_pos_left}
 use lib.Ieee.{Float, nan, inf, fin, binary64, up, down, units, fits, of_bits, to_bits, lt}
@@ -203,7 +206,8 @@ root_correct x f p =
     let q = nearest_root n in
     let w : Range n = (mul-le-mul_right (2 ^ 52) v.least, mul-le-mul_right (2 ^ 52) v.most) in
     let r = nearest_range n w in
-    let e : a * 2 ^ 1074 ≡ n * (2 ^ k * 2 ^ k) = sym v.is ∙ sym (shift_is m 52 (k + k) g (split_even g v.deep v.even)) ∙ ap (λ (y : ℕ). n * y) (pow-add 2 k k) in
+    let e : a * 2 ^ 1074 ≡ n * (2 ^ k * 2 ^ k) = sym v.is ∙ sym (shift_is m 52 (k + k) g (split_even g v.deep v.even))
+    ∙ ap (λ (y : ℕ). n * y) (pow-add 2 k k) in
     let val : HasValue x false a (2 ^ 1074) = subst (λ (y : Float). HasValue y false a (2 ^ 1074)) (of_bits-to_bits binary64 x f) (value_of_bits b l) in
     let z : 0 < a = first_pos a (2 ^ 1074) (subst (λ (y : ℕ). 0 < y) v.is (mul-pos (lt_of_lt_of_le (pow_pos 52) v.least) (pow_pos g))) in
     let small : k ≤ 2000 = within g v.high in
@@ -273,3 +277,7 @@ only_law (inf false) r f h = unfold root_of in h
 only_law (fin s zero e) r f h = unfold root_of in h
 only_law (fin true (suc m) e) r f h = unfold root_of in h
 only_law (fin false (suc m) e) r f h = only_one (fin false (suc m) e) r (root_of (fin false (suc m) e)) h (root_law (fin false (suc m) e) f)
+
+-- the same of what is the root of a value of the format
+pub lawful : (x r : Float) → fits binary64 x ≡ true → r ≡ root_of x → SquareRoot x r
+lawful x r f e = subst (λ (y : Float). SquareRoot x y) (sym e) (root_law x (subst T (sym f) tt))

@@ -1,6 +1,8 @@
--- The root grows with its operand, at the numbers above zero, and is such a number: a root that fell would have both operands on the wrong side of the middle of the two roots,
+-- The root grows with its operand, at the numbers above zero, and is such a number: a root that fell would have both
+-- operands on the wrong side of the middle of the two roots,
 -- which `root_correct` says by squares. Assumes nothing.
-use Rattle.std.proofs.Common.{◌≡◌, ℕ, ◌+◌, ◌*◌, ◌^◌, ◌<◌, ◌≤◌, false, T, negsuc, sym, refl, ap, subst, inl, inr, mul-le-mul_right, eq-zero-or-pos, mul-pos, arith, pow_pos}
+use Rattle.std.proofs.Common.{◌≡◌, ℕ, ◌+◌, ◌*◌, ◌^◌, ◌<◌, ◌≤◌, false, T, negsuc, sym, refl, ap, subst, inl, inr, mul-le-mul_right}
+use Rattle.std.proofs.Common.{eq-zero-or-pos, mul-pos, arith, pow_pos}
 use lib.Ieee.{Float, fin, binary64, le, fits}
 use lib.Ieee.Positive.{positive}
 use Rattle.float.specs.Units.{above_has, has_above, in_order, ordered}

@@ -1,5 +1,8 @@
 -- Bit patterns of binary64 as numbers of the smallest values, and what `root` makes of one. Assumes nothing.
-use Rattle.std.proofs.Common.{◌≡◌, ℕ, zero, suc, ◌+◌, ◌-◌, ◌*◌, ◌/◌, ◌%◌, ◌^◌, ◌<◌, ◌≤◌, Bool, true, false, cond, not, ◌&&◌, ◌||◌, T, eqb, leb, ◌⊎◌, sym, refl, ap, ◌∙◌, subst, inl, inr, true≢false, le_trans, le_of_eq, lt_of_lt_of_le, lt_irrefl, mul-le-mul_right, mod-lt, mod-eq_of_lt, zero-lt-suc, mul_assoc, eq-zero-or-pos, mul-lt-mul_of_pos_right, mul-pos, lt_of_not-le, zero-mul, mul-one, arith, lit<, lit≤, eqb→eq, lt→ltb, pow_pos, pow_mono, pow-add}
+use Rattle.std.proofs.Common.{◌≡◌, ℕ, zero, suc, ◌+◌, ◌-◌, ◌*◌, ◌/◌, ◌%◌, ◌^◌, ◌<◌, ◌≤◌, Bool, true, false, cond, not, ◌&&◌, ◌||◌, T, eqb}
+use Rattle.std.proofs.Common.{leb, ◌⊎◌, sym, refl, ap, ◌∙◌, subst, inl, inr, true≢false, le_trans, le_of_eq, lt_of_lt_of_le, lt_irrefl}
+use Rattle.std.proofs.Common.{mul-le-mul_right, mod-lt, mod-eq_of_lt, zero-lt-suc, mul_assoc, eq-zero-or-pos, mul-lt-mul_of_pos_right}
+use Rattle.std.proofs.Common.{mul-pos, lt_of_not-le, zero-mul, mul-one, arith, lit<, lit≤, eqb→eq, lt→ltb, pow_pos, pow_mono, pow-add}
 use mathlib.Core.Bool.{beq, false≢true}
 use lib.Dec.{not_T}
 use lib.Arith.{lt→nleb}
@@ -73,7 +76,8 @@ scaled_low b d q p e =
       most = rw f v.most;
       deep = omega (arith, v.many);
       high = omega arith;
-      is = ap (λ (x : ℕ). x * 2 ^ (1074 - s)) f ∙ shift_is d s (1074 - s) 1074 (within s (omega (arith, v.many))) ∙ ap (λ (x : ℕ). x * 2 ^ 1074) (q ∙ sym (units_low b e));
+      is = ap (λ (x : ℕ). x * 2 ^ (1074 - s)) f ∙ shift_is d s (1074 - s) 1074 (within s (omega (arith, v.many)))
+          ∙ ap (λ (x : ℕ). x * 2 ^ 1074) (q ∙ sym (units_low b e));
     }
   where
     within : (s : ℕ) → s ≤ 52 → s + (1074 - s) ≡ 1074
@@ -189,7 +193,8 @@ root_bits x m g f h l v =
     let small : k ≤ 2000 = within g v.high in
     let w : Range n = (mul-le-mul_right (2 ^ 52) v.least, mul-le-mul_right (2 ^ 52) v.most) in
     let r = nearest_range n w in
-    let e : a * 2 ^ 1074 ≡ n * (2 ^ k * 2 ^ k) = sym v.is ∙ sym (shift_is m 52 (k + k) g (split_even g v.deep v.even)) ∙ ap (λ (y : ℕ). n * y) (pow-add 2 k k) in
+    let e : a * 2 ^ 1074 ≡ n * (2 ^ k * 2 ^ k) = sym v.is ∙ sym (shift_is m 52 (k + k) g (split_even g v.deep v.even))
+    ∙ ap (λ (y : ℕ). n * y) (pow-add 2 k k) in
     let p : 0 < a = first_pos a (2 ^ 1074) (subst (λ (y : ℕ). 0 < y) v.is (mul-pos (lt_of_lt_of_le (lit< tt) v.least) (pow_pos g))) in
     let val : HasValue x false a (2 ^ 1074) = subst (λ (y : Float). HasValue y false a (2 ^ 1074)) (of_bits-to_bits binary64 x f) (value_of_bits b l) in
     (no_nan_bits (nearest_root n) k r.0 r.1 small, read_back (nearest_root n) k r.0 r.1 small ∙ sym (root_at n k a w e) ∙ sym (root_of_value x a p val))

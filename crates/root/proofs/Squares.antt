@@ -1,5 +1,9 @@
 -- Whole roots: `whole_root n` is the one r with r * r ≤ n < (r + 1) * (r + 1). Assumes nothing.
-use Rattle.std.proofs.Common.{◌≡◌, ℕ, zero, suc, ◌+◌, ◌-◌, ◌*◌, ◌/◌, ◌^◌, ◌<◌, ◌≤◌, Bool, true, false, cond, not, T, leb, ◌⊎◌, sym, refl, ap, ◌∙◌, subst, inl, inr, le_trans, le_of_eq, lt_of_lt_of_le, le_of_suc-le-suc, le_of_lt, lt_irrefl, zero-lt-suc, mul_assoc, mul_comm, div-lt_iff_lt-mul, add-mul, mul-le-mul, le_antisymm, pow-suc, lt_of_not-le, mul-one, mul-add, mul_left_comm, add-one, arith, eqb→eq, leb→le, pow_mono, pow-add}
+use Rattle.std.proofs.Common.{◌≡◌, ℕ, zero, suc, ◌+◌, ◌-◌, ◌*◌, ◌/◌, ◌^◌, ◌<◌, ◌≤◌, Bool, true, false, cond, not, T, leb, sym, refl}
+use Rattle.std.proofs.Common.{ap, ◌∙◌, subst, le_trans, le_of_eq, lt_of_lt_of_le, le_of_suc-le-suc, le_of_lt, lt_irrefl}
+use Rattle.std.proofs.Common.{zero-lt-suc, mul_assoc, mul_comm, div-lt_iff_lt-mul, add-mul, mul-le-mul, le_antisymm, pow-suc, lt_of_not-le}
+use Rattle.std.proofs.Common.{mul-one, mul-add, mul_left_comm, add-one, arith, eqb→eq, leb→le, pow_mono, pow-add}
+pub use Rattle.std.proofs.lemmas.Bool.{cases_lt as lt_or_ge}
 use Prim.Native.Nat.{compare, Ordering}
 use native.Mathlib.Nat.{mul-mul-mul_comm, pow-succ'}
 use lib.Dec.{is_le, compare_is_eq, nleb→lt}
@@ -162,10 +166,3 @@ last_root m q y d i v l =
     let s = sq_suc q in
     let b : y < 4 * q + 2 * d = v.3 in
     ((omega arith, omega arith), f)
-
-pub lt_or_ge : (a b : ℕ) → (a < b) ⊎ (b ≤ a)
-lt_or_ge a b = go (leb b a) (leb→le b a) (nleb→lt b a)
-  where
-    go : (t : Bool) → (T t → b ≤ a) → (T (not t) → a < b) → (a < b) ⊎ (b ≤ a)
-    go true g l = inr (g tt)
-    go false g l = inl (l tt)

@@ -1,5 +1,9 @@
 -- The root of a number n * p * p, with p = 2 ^ k and n of 105 or 106 digits, by the root of n. Assumes nothing.
-use Rattle.std.proofs.Common.{◌≡◌, ℕ, zero, suc, ◌+◌, ◌-◌, ◌*◌, ◌/◌, ◌^◌, ◌<◌, ◌≤◌, Bool, true, false, cond, not, T, ltb, ◌⊎◌, sym, refl, ap, ◌∙◌, subst, inl, inr, true≢false, le_trans, le_of_eq, lt_of_lt_of_le, lt_of_le_of_lt, le_of_lt, lt_irrefl, mul-le-mul_right, mul_assoc, add-mul, mul-le-mul, eq-or-lt_of_le, mul-lt-mul_of_pos_right, mul-pos, one-mul, lt_of_not-le, zero-add, zero-mul, not-le_of_lt, mul-div_cancel, arith, lit<, lit≤, lt→ltb, pow_pos, pow_mono, pow-add, shl_lt}
+use Rattle.std.proofs.Common.{◌≡◌, ℕ, zero, suc, ◌+◌, ◌-◌, ◌*◌, ◌/◌, ◌^◌, ◌<◌, ◌≤◌, Bool, true, false, cond, not, T, ltb, ◌⊎◌, sym, refl}
+use Rattle.std.proofs.Common.{ap, ◌∙◌, subst, inl, inr, true≢false, le_trans, le_of_eq, lt_of_lt_of_le, lt_of_le_of_lt, le_of_lt, lt_irrefl}
+use Rattle.std.proofs.Common.{mul-le-mul_right, mul_assoc, add-mul, mul-le-mul, eq-or-lt_of_le, mul-lt-mul_of_pos_right, mul-pos, one-mul}
+use Rattle.std.proofs.Common.{lt_of_not-le, zero-add, zero-mul, not-le_of_lt, mul-div_cancel, arith, lit<, lit≤, lt→ltb, pow_pos, pow_mono}
+use Rattle.std.proofs.Common.{pow-add, shl_lt}
 use Prim.Native.Nat.{compare, Ordering}
 use native.Mathlib.Nat.{mul-mul-mul_comm}
 use lib.Arith.{digits_div}
@@ -142,7 +146,8 @@ value_bits (fin true m e) a h = absurd (true≢false h.0)
 value_bits (fin false m e) a h = go (m * up e * 2 ^ 1074 / down e) (ap (λ (x : ℕ). x / down e) h.1 ∙ mul-div_cancel a (down_pos e))
   where
     go : (n : ℕ) → n ≡ a → 0 + (size n - 53) * 2 ^ 52 + n / 2 ^ (size n - 53) ≡ (size a - 53) * 2 ^ 52 + a / 2 ^ (size a - 53)
-    go n e = ap (λ (x : ℕ). 0 + (size x - 53) * 2 ^ 52 + x / 2 ^ (size x - 53)) e ∙ ap (λ (x : ℕ). x + a / 2 ^ (size a - 53)) (zero-add ((size a - 53) * 2 ^ 52))
+    go n e = ap (λ (x : ℕ). 0 + (size x - 53) * 2 ^ 52 + x / 2 ^ (size x - 53)) e
+        ∙ ap (λ (x : ℕ). x + a / 2 ^ (size a - 53)) (zero-add ((size a - 53) * 2 ^ 52))
 
 not_nan : (x : Float) (a : ℕ) → HasValue x false a (2 ^ 1074) → is_nan x ≡ false
 unfolding is_nan

@@ -1,5 +1,7 @@
--- Document 01, "Power and root": "The root is correctly rounded, ties to even, stated by comparing whole squares; subnormal numbers are scaled by their leading zeros; infinity gives
--- infinity, either zero itself, NaN and numbers below zero NaN." That this is IEEE 754's squareRoot is said in specs/Law.antt. Definitions only: assumes nothing.
+-- Document 01, "Power and root": "The root is correctly rounded, ties to even, stated by comparing whole squares;
+-- subnormal numbers are scaled by their leading zeros; infinity gives
+-- infinity, either zero itself, NaN and numbers below zero NaN." That this is IEEE 754's squareRoot is said in
+-- specs/Law.antt. Definitions only: assumes nothing.
 use Rattle.std.specs.Prelude.{ℕ, zero, suc, ◌+◌, ◌-◌, ◌*◌, ◌/◌, ◌^◌, true, false, cond, nat_le, Float}
 use Prim.Native.Nat.{compare}
 use Rattle.std.specs.Float.{nan, inf, fin, Format, binary64}
@@ -19,8 +21,10 @@ unfoldable pub whole_root : ℕ → ℕ
 unfolding whole
 whole_root n = whole (size n / 2 + 1) n
 
--- The value of f nearest to the root of n / 2 ^ low f, a tie to the even one. In units of f's smallest value, 2 ^ - low f, that root is the root of m = n * 2 ^ low f.
--- Of its whole part the format keeps the `prec` leading digits, q, and drops k; the root lies from q * 2 ^ k to (q + 1) * 2 ^ k, and is compared with the middle of the two by their squares.
+-- The value of f nearest to the root of n / 2 ^ low f, a tie to the even one. In units of f's smallest value, 2 ^ - low
+-- f, that root is the root of m = n * 2 ^ low f.
+-- Of its whole part the format keeps the `prec` leading digits, q, and drops k; the root lies from q * 2 ^ k to (q + 1)
+-- * 2 ^ k, and is compared with the middle of the two by their squares.
 unfoldable pub root_units : Format → ℕ → Float
 unfolding whole_root units
 root_units f n =
@@ -30,7 +34,8 @@ root_units f n =
     let q = w / 2 ^ k in
     units f false (nearest q (compare (4 * m) ((2 * q + 1) * 2 ^ k * ((2 * q + 1) * 2 ^ k)))) k
 
--- A number m * 2 ^ e above zero is handed over in units of the format's smallest value, which is a whole number: so a subnormal number needs no case of its own.
+-- A number m * 2 ^ e above zero is handed over in units of the format's smallest value, which is a whole number: so a
+-- subnormal number needs no case of its own.
 unfoldable pub root_of : Float → Float
 unfolding root_units
 root_of nan = nan

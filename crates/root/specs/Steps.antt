@@ -1,4 +1,5 @@
--- What the steps of `root` promise one another: the whole number that is the root's digits, and a pattern written with an even exponent. Definitions only: assumes nothing.
+-- What the steps of `root` promise one another: the whole number that is the root's digits, and a pattern written with
+-- an even exponent. Definitions only: assumes nothing.
 use Rattle.std.specs.Prelude.{◌≡◌, ℕ, zero, suc, ◌+◌, ◌-◌, ◌*◌, ◌/◌, ◌%◌, ◌^◌, ◌<◌, ◌≤◌}
 use Prim.Native.Nat.{compare}
 use Rattle.std.specs.Float.Ieee.{nearest}

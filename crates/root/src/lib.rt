@@ -2,114 +2,97 @@
 // which also tells the right neighbour; only where both miss are the digits found one by one.
 #![tactic(auto)]
 
-ghost use Rattle.std.specs.Prelude.{◌≡◌, ◌+◌, ◌*◌, ◌^◌, ◌<◌, true, from_bits};
+ghost use Rattle.std.specs.Prelude.{◌≡◌, ◌+◌, ◌*◌, ◌^◌, ◌<◌, true, from_bits, IfSome};
 ghost use Rattle.std.specs.Float.{binary64};
 ghost use Rattle.root.specs.Law.{SquareRoot};
 ghost use Rattle.root.specs.Root.{root_of};
 ghost use Rattle.root.specs.Steps.{nearest_root, Left, Scaled, Paired};
 
-// The whole number nearest to the root of c * 2^52, one binary digit a turn. With n = c * 2^52 the
-// digits found so far are q, the next one is worth d, and y * d is twice what q * q leaves of n.
-fn nearest_root(c: u64) -> u64
-    requires { c < 2 ^ 54 }
-    ensures { result ≡ nearest_root (c * 2 ^ 52) }
-{
-    let mut q: u64 = 0;
-    let mut y: u64 = c;
-    let mut d: u64 = 0x20_0000_0000_0000;
-    let mut i: u64 = 0;
-    while i < 53 {
-        d = d / 2;
-        let t: u64 = 2 * q + d;
-        if t <= y {
-            y = y - t;
-            q = q + d;
-        }
-        y = y * 2;
-        i = i + 1;
-    }
-    if y > 2 * q { q + 1 } else { q }
-}
-
-// hi * 2^64 + lo.
+// The whole number c * 2^52, whose root is looked for: c has at most 54 binary digits.
 #[derive(Clone, Copy)]
-struct Wide {
-    hi: u64,
-    lo: u64,
+struct Radicand {
+    c: u64,
+    ghost few_digits: { c < 2 ^ 54 },
 }
 
-// p * p, by the halves of p.
-fn square(p: u64) -> Wide
-    requires { p < 2 ^ 53 }
-    ensures { result.hi * 2 ^ 64 + result.lo ≡ p * p }
-{
-    let a: u64 = p / 0x1_0000_0000;
-    let b: u64 = p % 0x1_0000_0000;
-    let aa: u64 = a * a;
-    let ab: u64 = a * b;
-    let bb: u64 = b * b;
-    let mid: u64 = 2 * ab + bb / 0x1_0000_0000;
-    Wide {
-        hi: aa + mid / 0x1_0000_0000,
-        lo: mid % 0x1_0000_0000 * 0x1_0000_0000 + bb % 0x1_0000_0000,
-    }
-}
-
-// What c * 2^52 is more than p * p, where p has no more than 53 digits and that fits; else 0.
-fn excess(p: u64, c: u64) -> u64
-    requires { c < 2 ^ 54 }
-    ensures { 0 < result → Left p result c }
-{
-    if p < 0x20_0000_0000_0000 {
-        let s = square(p);
-        let hi: u64 = c / 0x1000;
-        let lo: u64 = c % 0x1000 * 0x10_0000_0000_0000;
-        let d: u64 = std::num::wrapping_sub_u64(lo, s.lo);
-        let borrow: u64 = if lo < s.lo { 1 } else { 0 };
-        if s.hi + borrow == hi { d } else { 0 }
-    } else {
-        0
-    }
-}
-
-// The same as `nearest_root` for any p: quick where the root is one of the three numbers after p.
-fn rounded(p: u64, c: u64) -> u64
-    requires { c < 2 ^ 54 }
-    ensures { result ≡ nearest_root (c * 2 ^ 52) }
-{
-    let d = excess(p, c);
-    if p < d {
-        if d <= 3 * p + 2 {
-            p + 1
-        } else if d <= 5 * p + 6 {
-            p + 2
-        } else if d <= 7 * p + 12 {
-            p + 3
-        } else {
-            nearest_root(c)
+impl Radicand {
+    // The whole number nearest to the root, one binary digit a turn. With n the number, the digits found
+    // so far are q, the next one is worth d, and y * d is twice what q * q leaves of n.
+    fn nearest_root(self) -> u64
+        ensures { result ≡ nearest_root (self.c * 2 ^ 52) }
+    {
+        let mut q: u64 = 0;
+        let mut y: u64 = self.c;
+        let mut d: u64 = 0x20_0000_0000_0000;
+        for _ in 0..53u32 {
+            d = d / 2;
+            let t: u64 = 2 * q + d;
+            if t <= y {
+                y = y - t;
+                q = q + d;
+            }
+            y = y * 2;
         }
-    } else {
-        nearest_root(c)
+        if y > 2 * q { q + 1 } else { q }
     }
-}
 
-// Whether g has the pattern of `low` and the whole number nearest to the root of c * 2^52. The
-// processor foresees that it has, so that what needs g does not wait for the square.
-fn is_rounded(g: f64, low: u64, c: u64) -> bool
-    requires fact_1 { c < 2 ^ 54 }
-    requires fact_2 { low + 2 ^ 53 < 2 ^ 64 }
-    ensures { result ≡ true → g ≡ from_bits binary64 (low + nearest_root (c * 2 ^ 52)) }
-{
-    if g > 0.0 {
-        let p: u64 = std::num::wrapping_sub_u64(f64::to_bits(g), low + 1);
-        let d = excess(p, c);
-        if p < d {
-            if d <= 3 * p + 2 { true } else { false }
+    // What the number is more than p * p, where p has at most 53 digits and that fits.
+    fn excess(self, p: u64) -> Option<u64>
+        ensures { IfSome result (λ d. Left p d self.c) }
+    {
+        if p >= 0x20_0000_0000_0000 {
+            return None;
+        }
+        let n = (self.c as u128) << 52;
+        let left = n.checked_sub((p as u128) * (p as u128))?;
+        u64::try_from(left).ok()
+    }
+
+    // The same as `nearest_root` for any p: quick where the root is one of the three numbers after p.
+    fn rounded(self, p: u64) -> u64
+        ensures { result ≡ nearest_root (self.c * 2 ^ 52) }
+    {
+        match self.excess(p) {
+            Some(d) if p < d && d <= 7 * p + 12 => {
+                if d <= 3 * p + 2 {
+                    p + 1
+                } else if d <= 5 * p + 6 {
+                    p + 2
+                } else {
+                    p + 3
+                }
+            }
+            _ => self.nearest_root(),
+        }
+    }
+
+    // Whether g has the pattern of `low` and the whole number nearest to the root. The processor
+    // foresees that it has, so that what needs g does not wait for the square.
+    fn is_rounded(self, g: f64, low: u64) -> bool
+        requires { low + 2 ^ 53 < 2 ^ 64 }
+        ensures { result ≡ true → g ≡ from_bits binary64 (low + nearest_root (self.c * 2 ^ 52)) }
+    {
+        if g > 0.0 {
+            let p: u64 = f64::to_bits(g).wrapping_sub(low + 1);
+            matches!(self.excess(p), Some(d) if p < d && d <= 3 * p + 2)
         } else {
             false
         }
-    } else {
-        false
+    }
+
+    // About two less than the root, by the root of a float from 1 to 4 with the same digits.
+    fn guess(self) -> u64 {
+        let bits: u64 = if self.c < 0x20_0000_0000_0000 {
+            self.c + 0x3fe0_0000_0000_0000
+        } else {
+            self.c / 2 + 0x3ff0_0000_0000_0000
+        };
+        let g = approximate(bits);
+        if g > 0.0 {
+            f64::to_bits(g).wrapping_sub(0x3fe0_0000_0000_0002)
+        } else {
+            0
+        }
     }
 }
 
@@ -129,23 +112,6 @@ fn approximate(bits: u64) -> f64
     let s: f64 = x * y;
     let e: f64 = (x - t * t) - (s - t) * (s + t);
     s + e * (0.875 * y - 0.375 * y * y * s)
-}
-
-// About two less than the root of c * 2^52, by the root of a float from 1 to 4 with the digits of c.
-fn guess(c: u64) -> u64
-    requires { c < 2 ^ 54 }
-{
-    let bits: u64 = if c < 0x20_0000_0000_0000 {
-        c + 0x3fe0_0000_0000_0000
-    } else {
-        c / 2 + 0x3ff0_0000_0000_0000
-    };
-    let g = approximate(bits);
-    if g > 0.0 {
-        std::num::wrapping_sub_u64(f64::to_bits(g), 0x3fe0_0000_0000_0002)
-    } else {
-        0
-    }
 }
 
 // m * 2^g.
@@ -206,11 +172,13 @@ pub fn root(x: f64) -> f64
             let low: u64 = (s.g / 2 - 26) << 52;
             if bits >= 0x0800_0000_0000_0000 {
                 let g = approximate(bits);
-                if is_rounded(g, low, s.m) {
+                let n = Radicand { c: s.m };
+                if n.is_rounded(g, low) {
                     return g;
                 }
             }
-            f64::from_bits(low + rounded(guess(s.m), s.m))
+            let n = Radicand { c: s.m };
+            f64::from_bits(low + n.rounded(n.guess()))
         } else {
             x
         }

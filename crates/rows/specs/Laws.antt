@@ -13,14 +13,14 @@ use Rattle.cells.specs.Numbered.{list_from, and_here}
 use Rattle.filter.specs.Filter.{stage_out, stage_cells, row_out, row_cells}
 use Rattle.filter.specs.Steps.{row_at, out_at, row_at_length, stage_row, next_out, next_row}
 use Rattle.string.specs.declared.StringDesign.{StringDesign}
-use Rattle.string.specs.String.{size_of, v_in, filtered}
+use Rattle.string.specs.String.{size_of, at_row, v_in, filtered}
 use Rattle.string.specs.Laws.{filtered_length}
-use Rattle.string.specs.Table.{design_at}
-use Rattle.string.specs.Steps.{at_row, u_in, started, out_to, rowed_to, finished_out, finished, started_length, finished_length, steps_v_in, steps_filtered}
+use Rattle.string.specs.Table.{past_design, design_at, list_of}
+use Rattle.string.specs.Steps.{u_in, started, out_to, rowed_to, finished_out, finished, started_length, finished_length, steps_v_in, steps_filtered}
 use Rattle.rows.specs.declared.Rows.{Rows}
 use Rattle.rows.specs.Rows.{string_start, size_at, cells_in, MovedOn, Few, Laid, Started, Staged, InRows, Finished, Filtered, FilteredTo}
-use Rattle.rows.specs.declared.Next.{Next}
-use Rattle.strings.specs.Strings.{AllFit, Indexed, filtered_one, filtered_all, v_in_one, v_ins}
+use Rattle.rows.specs.declared.Place.{Place}
+use Rattle.strings.specs.Strings.{AllFit, cells_of, filtered_one, filtered_all, v_in_one, v_ins}
 
 -- ---- one stage of one string, whose cells start at o: it is lent its two cells by their place among all
 
@@ -101,10 +101,6 @@ module _ (f : ℕ → StringDesign) where
         let n : at + k - at ≡ size_at f (i + l) = omega arith in
         moved_turn (string_start f) (size_at f) next r ys (splice at (at + k - at) ys w) whole
         (ap length hy ∙ keeps (take (at + k - at) (drop at w)) on_length) (hy ∙ ap (g l) lent_is) (rw (n, ha))
-
-  -- a pass leaves them as many cells
-  pub few_still : {i m : ℕ} {w₀ w : List Float} → Few f i m w₀ → length w ≡ length w₀ → Few f i m w
-  few_still r e = let room = r.room in record { few = r.few; known = r.known; fit = r.fit; room = omega (arith, room, e) }
 
   -- another stage of each row
   pub rows_turn : (i m s : ℕ) (v₀ v v' w₀ w w' : List Float) → string_start f (i + m) ≤ length w₀
@@ -308,7 +304,7 @@ module _ (f : ℕ → StringDesign) where
   below_none t w o = record { cells = on_none 0 (λ k p. filtered (f k) t p) w; outputs = moved_none (λ j. j) (λ j. 1) (λ j. refl) 0 _ o; end = refl }
 
   -- then the next few are
-  pub below_turn : {i n t at : ℕ} {w₀ w w' o₀ o o' : List Float} {r : Next} → FilteredBelow i t w₀ w o₀ o at
+  pub below_turn : {i n t at : ℕ} {w₀ w w' o₀ o o' : List Float} {r : Place} → FilteredBelow i t w₀ w o₀ o at
       → FilteredTo f i n t w w' o o' r → string_start f n ≤ length w₀ → n ≤ length o₀
       → FilteredBelow r.i t w₀ w' o₀ o' r.at
   below_turn {i} {n} {t} {at} {w₀} {w} {w'} {o₀} {o} {o'} {r} a b room long =
@@ -331,23 +327,51 @@ module _ (f : ℕ → StringDesign) where
     stored_all nan (λ k. v_in (f k) t (cells_in f k w₀)) o₀ o n r.outputs long ∙ ap (λ (l : List Float). l ++ drop n o₀) (sym (collect_own size_of f (v_in_one t) w₀ n)),
   )
 
--- what the tables' strings meet, fewer of them meet
-module _ {lengths : List ℕ} {coefficients : List Float} where
-  few_of : {i m n : ℕ} {w : List Float} → AllFit lengths coefficients n → string_start (design_at lengths coefficients) n ≤ length w → i + m ≤ n → m ≤ 4
-      → Few (design_at lengths coefficients) i m w
-  few_of {i} {m} {n} ok room h few =
-      let few' = ok.few in
-      record {
-        few = few;
-        known = omega (arith, few');
-        fit = λ k q. ok.each k (omega arith);
-        room = le_trans (starts_rise (string_start (design_at lengths coefficients)) (size_at (design_at lengths coefficients)) (start_next size_of (design_at lengths coefficients)) (i + m) n h) room;
-      }
+module _ (designs : List StringDesign) where
+  -- all strings' cells end where a string past the last would start
+  pub all_room : (w : List Float) → cells_of designs ≤ length w → string_start (design_at designs) (length designs) ≤ length w
+  all_room w h = subst (λ (ds : List StringDesign). cells_of ds ≤ length w) (sym (list_of designs past_design)) h
 
-  -- what is asked of the next m of n strings
-  pub next_few : {i m n t at : ℕ} {indices : List ℕ} {w : List Float} (o : List Float) → AllFit lengths coefficients n → Indexed lengths coefficients indices n t
-      → string_start (design_at lengths coefficients) n ≤ length w → n ≤ length o → at ≡ string_start (design_at lengths coefficients) i → i + m ≤ n → m ≤ 4
-      → Few (design_at lengths coefficients) i m w
-      × (Indexed lengths coefficients indices (i + m) t × ((at ≡ string_start (design_at lengths coefficients) i) × (i + m ≤ length o)))
-  next_few o ok at_t room long start below few =
-      (few_of ok room below few, (record { long = at_t.long; each = λ k q. at_t.each k (omega arith) }, (start, le_trans below long)))
+  -- all strings are filtered
+  pub filtered_whole : (t at : ℕ) (w₀ w o₀ o : List Float) → FilteredBelow (design_at designs) (length designs) t w₀ w o₀ o at → length designs ≤ length o₀
+      → (w ≡ filtered_all designs t w₀) × (o ≡ v_ins designs t w₀ ++ drop (length designs) o₀)
+  filtered_whole t at w₀ w o₀ o r long =
+      subst (λ (ds : List StringDesign). (w ≡ filtered_all ds t w₀) × (o ≡ v_ins ds t w₀ ++ drop (length designs) o₀))
+      (list_of designs past_design) (below_all (design_at designs) r long)
+
+-- a pass leaves them as many cells
+pub few_still : {designs : List StringDesign} {here : Place} {m : ℕ} {w₀ w : List Float} → Few designs here m w₀ → length w ≡ length w₀ → Few designs here m w
+few_still r e = let room = r.room in record { few = r.few; known = r.known; fit = r.fit; start = r.start; room = omega (arith, room, e) }
+
+-- what is asked of the next m strings
+pub next_few : {designs : List StringDesign} {here : Place} {m : ℕ} {w : List Float} → AllFit designs → cells_of designs ≤ length w
+    → here.at ≡ string_start (design_at designs) here.i → here.i + m ≤ length designs → m ≤ 4 → Few designs here m w
+next_few {designs} {here} {m} {w} ok room start below few =
+    let f = design_at designs in
+    record {
+      few = few;
+      known = below;
+      fit = λ k q. ok.each k (omega arith);
+      start = start;
+      room = le_trans (starts_rise (string_start f) (size_at f) (start_next size_of f) (here.i + m) (length designs) below) (all_room designs w room);
+    }
+
+module _ {designs : List StringDesign} {here : Place} {m : ℕ} {w : List Float} (few : Few designs here m w) (l : ℕ) (hl : l < m) where
+  -- the next strings' cells are there
+  pub few_fits : string_start (design_at designs) (here.i + l) + size_of (design_at designs (here.i + l)) ≤ length w
+  few_fits = le_trans (cells_fit (design_at designs) (here.i + l) (here.i + m) (omega arith)) few.room
+
+  -- and so are those of the stages that all their rows have
+  pub stage_room : {r : Rows} → Laid (design_at designs) here.i m r → (s : ℕ) → s < r.stages → get_or r.starts l 0 + 2 * s + 2 ≤ length w
+  stage_room laid s hs =
+      let fits = few_fits in
+      let start = laid.start l hl in
+      let enough = laid.enough l hl in
+      omega (arith, fits, start, enough)
+
+-- of one string alone
+pub one_fits : {designs : List StringDesign} {here : Place} {w : List Float} → Few designs here 1 w → here.at + size_of (design_at designs here.i) ≤ length w
+one_fits {designs} {here} few =
+    let f = design_at designs in
+    let fits = cells_fit f here.i (here.i + 1) (omega arith) in
+    omega (arith, fits, few.room, few.start)

@@ -5,10 +5,11 @@ use Rattle.cells.specs.Together.{own, Moved, Stored}
 use Rattle.cells.specs.Together.{start_in, size_in}
 use Rattle.filter.specs.Steps.{row_at, out_at}
 use Rattle.string.specs.declared.StringDesign.{StringDesign}
-use Rattle.string.specs.String.{size_of, v_in, filtered}
-use Rattle.string.specs.Steps.{at_row, u_in, started, out_to, rowed_to, finished_out, finished}
+use Rattle.string.specs.String.{size_of, at_row, v_in, filtered}
+use Rattle.string.specs.Table.{design_at}
+use Rattle.string.specs.Steps.{u_in, started, out_to, rowed_to, finished_out, finished}
 use Rattle.rows.specs.declared.Rows.{Rows}
-use Rattle.rows.specs.declared.Next.{Next}
+use Rattle.rows.specs.declared.Place.{Place}
 use Rattle.strings.specs.Strings.{Keyed}
 
 -- where string k's cells start, and how many they are
@@ -18,6 +19,14 @@ string_start f k = start_in size_of f k
 abbrev pub size_at : (ℕ → StringDesign) → ℕ → ℕ
 size_at f k = size_in size_of f k
 
+-- the next m strings, at most four, whose cells are there, where a walk over the strings stands
+pub record Few (designs : List StringDesign) (here : Place) (m : ℕ) (w : List Float) : Type 0 where
+  pub few : m ≤ 4
+  pub known : here.i + m ≤ length designs
+  pub fit : (k : ℕ) → k < here.i + m → Keyed (design_at designs k)
+  pub start : here.at ≡ string_start (design_at designs) here.i
+  pub room : string_start (design_at designs) (here.i + m) ≤ length w
+
 -- string k is f k
 module _ (f : ℕ → StringDesign) where
   abbrev pub cells_in : ℕ → List Float → List Float
@@ -26,13 +35,6 @@ module _ (f : ℕ → StringDesign) where
   -- string i + l is moved on by g l, for each l below m
   abbrev pub MovedOn : ℕ → ℕ → (ℕ → List Float → List Float) → List Float → List Float → Type 0
   MovedOn i m g w₀ w = Moved (string_start f) (size_at f) i m g w₀ w
-
-  -- the m strings from string i on, at most four, whose cells are there
-  pub record Few (i m : ℕ) (w : List Float) : Type 0 where
-    pub few : m ≤ 4
-    pub known : i + m ≤ 32
-    pub fit : (k : ℕ) → k < i + m → Keyed (f k)
-    pub room : string_start f (i + m) ≤ length w
 
   -- where their rows start, the rows' coefficients, and a number of stages that each of them has
   pub record Laid (i m : ℕ) (r : Rows) : Type 0 where
@@ -73,7 +75,7 @@ module _ (f : ℕ → StringDesign) where
     pub end : e ≡ string_start f (i + m)
 
   -- the same of the strings from i up to the next, of n
-  pub record FilteredTo (i n t : ℕ) (w₀ w o₀ o : List Float) (r : Next) : Type 0 where
+  pub record FilteredTo (i n t : ℕ) (w₀ w o₀ o : List Float) (r : Place) : Type 0 where
     pub m : ℕ
     pub some : 1 ≤ m
     pub next : r.i ≡ i + m

@@ -1,9 +1,10 @@
 -- Document 01, "The session": what each call promises, by equation: its answer, the session, and every cell of work memory, output and
 -- trace afterwards. Scratch is free in an accepted call, and a refused one leaves it. Which part holds which cue is fixed: slot j in part
 -- j + 1. Definitions only: assumes nothing.
-use Rattle.std.specs.Prelude.{◌≡◌, true, false, cond, List, ◌++◌, map, ℕ, ◌+◌, ◌-◌, ◌*◌, eqb, Float, length, take, drop, get_or, set, replicate}
+use Rattle.std.specs.Prelude.{◌≡◌, true, false, cond, List, ◌++◌, map, ℕ, ◌+◌, ◌-◌, ◌*◌, eqb, Float, length, take, drop, get_or, set, replicate, Ok, Err}
 use Rattle.cells.specs.Splice.{part, splice}
 use Rattle.counting.specs.Meets.{Meets}
+use Rattle.refusal.specs.Refusal.{numbered}
 use Rattle.instrument.specs.declared.Instrument.{Instrument}
 use Rattle.instrument.specs.Work.{part_cells}
 use Rattle.score.specs.declared.Event.TheVariants.{Pedal}
@@ -20,7 +21,7 @@ use Rattle.session_cues.specs.declared.Cue.{Cue}
 use Rattle.session_cues.specs.Cues.{kept_of, slot_at, free_slot, drop_above}
 use Rattle.session_record.specs.declared.Session.{Session}
 use Rattle.session_record.specs.Record.{score_of, open_refusal, play_number, cue_number, go_number, insert_number, remove_number}
-use Rattle.session.specs.declared.Answer.TheVariants.{Refused, Opened, Played, Cued, Went, Edited}
+use Rattle.session.specs.declared.Answer.TheVariants.{Opened, Played, Cued, Went, Edited}
 use Rattle.session.specs.declared.Outcome.{Outcome}
 
 -- ---- what a session and its memory hold
@@ -48,7 +49,7 @@ held_at i s work x = cond (eqb x s.t) (state_now i s work) (cond (is_in x (kept_
 
 -- "A refusal returns its number alone and alters nothing."
 abbrev pub refused_with : Session → ℕ → Outcome
-refused_with s n = record { answer = Refused n; session = s }
+refused_with s n = record { answer = Err (numbered n); session = s }
 
 abbrev pub Refuses : Session → (work : List Float) → Outcome → (work' : List Float) → ℕ → Type 0
 Refuses s work r work' n = (r ≡ refused_with s n) × (work' ≡ work)
@@ -67,14 +68,16 @@ fresh_session p =
 abbrev pub OpenMeets : Instrument → List Float → Outcome → List Float → Type 0
 OpenMeets i work r work' =
     Meets (open_refusal i (length work)) (Refuses (fresh_session silent_piano) work r work')
-    ((r ≡ record { answer = Opened; session = fresh_session silent_piano }) × (work' ≡ (silence i).cells ++ drop (part_cells i) work))
+    ((r ≡ record { answer = Ok Opened; session = fresh_session silent_piano }) × (work' ≡ (silence i).cells ++ drop (part_cells i) work))
 
 -- ---- play
 
 pub record Plays (i : Instrument) (s : Session) (work out trace : List Float) (r : Outcome) (work' out' trace' : List Float) : Type 0 where
   pub answer : r.answer
-      ≡ Played (length (forces i (score_of s) s.t (length out) (state_now i s work)))
-      (contacts_of i.key_count (run i (score_of s) s.t (length out) (state_now i s work)).piano)
+      ≡ Ok (
+        Played (length (forces i (score_of s) s.t (length out) (state_now i s work)))
+        (contacts_of i.key_count (run i (score_of s) s.t (length out) (state_now i s work)).piano)
+      )
   pub session : r.session
       ≡ record {
         t = s.t + length out;
@@ -98,7 +101,7 @@ PlayMeets i s work scratch out trace r work' out' trace' =
 
 -- "adds t; if t is kept already, no change": a new cue goes into the first free slot, its cells into that slot's part
 pub record Cues (i : Instrument) (s : Session) (work : List Float) (r : Outcome) (work' : List Float) : Type 0 where
-  pub answer : r.answer ≡ Cued
+  pub answer : r.answer ≡ Ok Cued
   pub again : is_in s.t (kept_by s) ≡ true → (r.session ≡ s) × (work' ≡ work)
   pub adds : is_in s.t (kept_by s) ≡ false
       → (r.session
@@ -118,7 +121,7 @@ CueMeets i s work r work' = Meets (cue_number i s (length work)) (Refuses s work
 
 -- "that many samples take a state held for the start, whatever its floats, or silence where none is held, to the state left"
 pub record Goes (i : Instrument) (s : Session) (work : List Float) (p start : ℕ) (r : Outcome) (work' : List Float) : Type 0 where
-  pub answer : r.answer ≡ Went (p - start)
+  pub answer : r.answer ≡ Ok (Went (p - start))
   pub session : r.session
       ≡ record {
         t = p;
@@ -137,7 +140,7 @@ GoMeets i s work scratch p r work' =
 
 -- "Both edits drop cues above q. If t > q, t becomes the greatest kept cue ≤ q, else 0. Each returns t and the number dropped."
 pub record Edits (i : Instrument) (s : Session) (work : List Float) (q number : ℕ) (left : List TimedEvent) (r : Outcome) (work' : List Float) : Type 0 where
-  pub answer : r.answer ≡ Edited (settled s.t (kept_by s) q) (above q (kept_by s))
+  pub answer : r.answer ≡ Ok (Edited (settled s.t (kept_by s) q) (above q (kept_by s)))
   pub session : r.session
       ≡ record {
         t = settled s.t (kept_by s) q;

@@ -1,22 +1,26 @@
-// Document 01, "The session": open, play, cue, go, insert and remove, over the renderer by its promise alone. Each gets the instrument and the session by value, tests the
-// refusals that concern it, and gives the session back; a refused call gives back what it got and changes no cell.
+// Document 01, "The session": open, play, cue, go, insert and remove, over the renderer by its promise alone. Each gets the instrument
+// and the session by value, tests the refusals that concern it, and gives the session back; a refused call gives back what it got and
+// changes no cell.
 #![tactic(auto)]
 
 ghost use Rattle.std.specs.Prelude.{◌≡◌, true, ◌*◌, ◌≤◌, length};
+ghost use Rattle.refusal.specs.Refusal.{number_of};
 ghost use Rattle.instrument.specs.Valid.{valid};
 ghost use Rattle.instrument.specs.Work.{part_cells};
 ghost use Rattle.session_record.specs.Record.{play_number, go_number};
-ghost use Rattle.session.specs.Calls.{fresh_session, refused_with, ScratchStays, Restores, Edits, OpenMeets, PlayMeets, CueMeets, GoMeets, InsertMeets, RemoveMeets};
+ghost use Rattle.session.specs.Calls.{fresh_session, refused_with, ScratchStays, Restores, Edits, OpenMeets, PlayMeets, CueMeets, GoMeets};
+ghost use Rattle.session.specs.Calls.{InsertMeets, RemoveMeets};
 
 use instrument::Instrument;
+use refusal::Refusal;
 use score::{Event, Piano, Score, TimedEvent};
 use session_cues::Cue;
 use session_record::Session;
 
-// "accepted, or the refusal's number; play's k; go's number; an edit's t and number dropped"; beside k the contact samples of all keys at the new position
+// What an accepted call answers: "play's k; go's number; an edit's t and number dropped"; beside k the contact samples of all keys at
+// the new position.
 #[derive(Clone, Copy)]
 pub enum Answer {
-    Refused(u64),
     Opened,
     Played { k: usize, contacts: u64 },
     Cued,
@@ -26,16 +30,16 @@ pub enum Answer {
 
 #[derive(Clone, Copy)]
 pub struct Outcome {
-    pub answer: Answer,
+    pub answer: Result<Answer, Refusal>,
     pub session: Session,
 }
 
-fn refused(session: Session, number: u64) -> Outcome
-    ensures { result ≡ refused_with session number }
+fn refused(session: Session, refusal: Refusal) -> Outcome
+    ensures { result ≡ refused_with session (number_of refusal) }
 {
     Outcome {
-        answer: Answer::Refused(number),
-        session: session,
+        answer: Err(refusal),
+        session,
     }
 }
 
@@ -64,18 +68,16 @@ fn fresh(piano: Piano) -> Session
 pub fn open(instrument: Instrument, work: &mut [f64]) -> Outcome
     ensures { OpenMeets instrument work.old result work.new }
 {
-    let refusal = session_record::open_refusal(instrument, work.len());
-    if refusal != 0 {
-        let none = fresh(render::silent_piano());
-        return refused(none, refusal);
+    let piano = render::silent_piano();
+    let session = fresh(piano);
+    if let Err(refusal) = session_record::open_refusal(instrument, work.len()) {
+        return refused(session, refusal);
     }
     let w = session_record::part_size(instrument);
     render::silence_part(&mut work[..w]);
-    let piano = render::silent_piano();
-    let session = fresh(piano);
     Outcome {
-        answer: Answer::Opened,
-        session: session,
+        answer: Ok(Answer::Opened),
+        session,
     }
 }
 
@@ -92,54 +94,45 @@ pub fn play(
     ensures scratch_stays { ScratchStays (play_number instrument session (length work.old) (length scratch.old)
         (length out.old) (length trace.old)) scratch.old scratch.new }
 {
-    let refusal = session_record::play_refusal(
+    if let Err(refusal) = session_record::play_refusal(
         instrument,
         session,
         work.len(),
         scratch.len(),
         out.len(),
         trace.len(),
-    );
-    if refusal != 0 {
+    ) {
         return refused(session, refusal);
     }
     let w = session_record::part_size(instrument);
-    let t = session.t;
     let m = out.len() as u64;
-    let next = t + m;
-    let count = session.count;
-    let events = session.events;
-    let cues = session.cues;
-    let piano = session.piano;
-    let score = Score {
-        events: events,
-        count: count,
-    };
+    let next = session.t + m;
     let played = render::render(
         &mut work[..w],
         scratch,
         out,
         trace,
         instrument,
-        score,
-        piano,
-        t,
+        Score {
+            events: session.events,
+            count: session.count,
+        },
+        session.piano,
+        session.t,
         m,
     );
-    let after = played.piano;
-    let counts = after.contact_samples;
-    let total = score::contacts(counts, instrument.key_count, next);
+    let piano = played.piano;
+    // The render promises that the sum is not above its end, so that there is one.
+    let contacts = score::contacts(piano.contact_samples, instrument.key_count, next).unwrap();
     Outcome {
-        answer: Answer::Played {
+        answer: Ok(Answer::Played {
             k: played.pushed,
-            contacts: total.sum,
-        },
+            contacts,
+        }),
         session: Session {
             t: next,
-            count: count,
-            events: events,
-            cues: cues,
-            piano: after,
+            piano,
+            ..session
         },
     }
 }
@@ -147,30 +140,27 @@ pub fn play(
 pub fn cue(instrument: Instrument, session: Session, work: &mut [f64]) -> Outcome
     ensures { CueMeets instrument session work.old result work.new }
 {
-    let refusal = session_record::cue_refusal(instrument, session, work.len());
-    if refusal != 0 {
+    if let Err(refusal) = session_record::cue_refusal(instrument, session, work.len()) {
         return refused(session, refusal);
     }
-    let t = session.t;
-    let slots = session.cues;
-    if session_cues::slot_at(slots, 0, t) < 4 {
+    if session_cues::slot_at(&session.cues, session.t).is_some() {
         return Outcome {
-            answer: Answer::Cued,
-            session: session,
+            answer: Ok(Answer::Cued),
+            session,
         };
     }
-    let slot = session_cues::free_slot(slots);
+    // Fewer than four others are kept and t is not, so that a slot is free.
+    let slot = session_cues::free_slot(&session.cues).unwrap();
     let w = session_record::part_size(instrument);
     cells::copy_part(work, (slot + 1) * w, 0, w);
-    let piano = session.piano;
     let mut next = session;
     next.cues[slot] = Cue {
         kept: true,
-        position: t,
-        piano: piano,
+        position: session.t,
+        piano: session.piano,
     };
     Outcome {
-        answer: Answer::Cued,
+        answer: Ok(Answer::Cued),
         session: next,
     }
 }
@@ -184,15 +174,16 @@ fn restore(instrument: Instrument, session: Session, x: u64, work: &mut [f64]) -
         return session.piano;
     }
     let w = session_record::part_size(instrument);
-    let slots = session.cues;
-    let slot = session_cues::slot_at(slots, 0, x);
-    if slot < 4 {
-        cells::copy_part(work, 0, (slot + 1) * w, w);
-        let cue = slots[slot];
-        return cue.piano;
+    match session_cues::slot_at(&session.cues, x) {
+        Some(slot) => {
+            cells::copy_part(work, 0, (slot + 1) * w, w);
+            session.cues[slot].piano
+        }
+        None => {
+            render::silence_part(&mut work[..w]);
+            render::silent_piano()
+        }
     }
-    render::silence_part(&mut work[..w]);
-    render::silent_piano()
 }
 
 pub fn go(
@@ -206,20 +197,14 @@ pub fn go(
     ensures scratch_stays { ScratchStays (go_number instrument session (length work.old) (length scratch.old) p)
         scratch.old scratch.new }
 {
-    let refusal = session_record::go_refusal(instrument, session, work.len(), scratch.len(), p);
-    if refusal != 0 {
+    if let Err(refusal) =
+        session_record::go_refusal(instrument, session, work.len(), scratch.len(), p)
+    {
         return refused(session, refusal);
     }
     let w = session_record::part_size(instrument);
     let start = session_record::start_of(session, p);
-    let piano = restore(instrument, session, start, work);
-    let count = session.count;
-    let events = session.events;
-    let cues = session.cues;
-    let score = Score {
-        events: events,
-        count: count,
-    };
+    let held = restore(instrument, session, start, work);
     let mut no_out = [0.0; 1];
     let mut no_trace = [0.0; 1];
     let replayed = render::render(
@@ -228,20 +213,20 @@ pub fn go(
         &mut no_out,
         &mut no_trace,
         instrument,
-        score,
-        piano,
+        Score {
+            events: session.events,
+            count: session.count,
+        },
+        held,
         start,
         p - start,
     );
-    let after = replayed.piano;
     Outcome {
-        answer: Answer::Went(replayed.done),
+        answer: Ok(Answer::Went(replayed.done)),
         session: Session {
             t: p,
-            count: count,
-            events: events,
-            cues: cues,
-            piano: after,
+            piano: replayed.piano,
+            ..session
         },
     }
 }
@@ -260,20 +245,17 @@ fn edit(
 {
     let t = session_record::settle(session, q);
     let piano = restore(instrument, session, t, work);
-    let slots = session.cues;
-    let dropped = session_cues::count_above(slots, q);
-    let left = session_cues::drop_above(slots, q);
+    let dropped = session_cues::count_above(&session.cues, q);
+    let mut cues = session.cues;
+    session_cues::drop_above(&mut cues, q);
     Outcome {
-        answer: Answer::Edited {
-            t: t,
-            dropped: dropped,
-        },
+        answer: Ok(Answer::Edited { t, dropped }),
         session: Session {
-            t: t,
-            count: count,
-            events: events,
-            cues: left,
-            piano: piano,
+            t,
+            count,
+            events,
+            cues,
+            piano,
         },
     }
 }
@@ -286,26 +268,34 @@ pub fn insert(
 ) -> Outcome
     ensures { InsertMeets instrument session work.old timed result work.new }
 {
-    let refusal = session_record::insert_refusal(instrument, session, work.len(), timed);
-    if refusal != 0 {
+    if let Err(refusal) = session_record::insert_refusal(instrument, session, work.len(), timed) {
         return refused(session, refusal);
     }
-    let count = session.count;
-    let before = session.events;
-    let events = score_edits::place_event(before, count, timed);
-    edit(instrument, session, work, timed.position, events, count + 1)
+    let events = score_edits::place_event(session.events, session.count, timed);
+    edit(
+        instrument,
+        session,
+        work,
+        timed.position,
+        events,
+        session.count + 1,
+    )
 }
 
 pub fn remove(instrument: Instrument, session: Session, work: &mut [f64], index: usize) -> Outcome
     ensures { RemoveMeets instrument session work.old index result work.new }
 {
-    let refusal = session_record::remove_refusal(instrument, session, work.len(), index);
-    if refusal != 0 {
+    if let Err(refusal) = session_record::remove_refusal(instrument, session, work.len(), index) {
         return refused(session, refusal);
     }
-    let count = session.count;
-    let before = session.events;
-    let gone = before[index];
-    let events = score_edits::remove_event(before, count, index);
-    edit(instrument, session, work, gone.position, events, count - 1)
+    let gone = session.events[index];
+    let events = score_edits::remove_event(session.events, session.count, index);
+    edit(
+        instrument,
+        session,
+        work,
+        gone.position,
+        events,
+        session.count - 1,
+    )
 }

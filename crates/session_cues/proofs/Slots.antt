@@ -11,7 +11,6 @@ use Rattle.positions.specs.Positions.{count, is_in, above, up_to, greatest}
 use Rattle.positions.specs.Laws.{true_or_false}
 use Rattle.session_cues.specs.declared.Cue.{Cue}
 use Rattle.session_cues.specs.Cues.{kept_of, stands_at, slot_at, sound_cue, sound_cues, sound_cues_to}
-use Rattle.session_cues.specs.Laws.{slot_in}
 
 count_lost : (q : ℕ) (cs : List Cue) → length (filter (λ (c : Cue). c.kept && ltb q c.position) cs) ≡ above q (kept_of cs)
 unfolding kept_of count
@@ -59,14 +58,6 @@ map_turn f xs ys i d h e =
 
 pub lost_is : (q : ℕ) (cs : List Cue) → count_by (λ (c : Cue). c.kept && ltb q c.position) cs ≡ above q (kept_of cs)
 lost_is q cs = sym (length-filter (λ (c : Cue). c.kept && ltb q c.position) cs) ∙ count_lost q cs
-
--- whether a search found a slot says whether the position is kept
-pub found_is : (x : ℕ) (cs : List Cue) → is_some (position (stands_at x) cs) ≡ is_in x (kept_of cs)
-found_is x cs = go (ltb (slot_at x cs) (length cs)) refl ∙ slot_in x cs
-  where
-    go : (b : Bool) → ltb (slot_at x cs) (length cs) ≡ b → is_some (position (stands_at x) cs) ≡ ltb (slot_at x cs) (length cs)
-    go true e = rw e
-    go false e = rw e
 
 -- the test of the first slot left, and what it leaves to the later ones
 module _ (keys : ℕ) (left : List Cue) (c : Cue) (cs : List Cue) (e : left ≡ c ∷ cs)

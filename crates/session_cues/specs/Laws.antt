@@ -1,6 +1,8 @@
 -- Laws of the slots: what they keep as a set of positions, and what a passed test says of each. Assumes nothing.
-use Rattle.std.specs.Prelude.{◌≡◌, refl, Bool, true, false, cond, not, ◌&&◌, ◌||◌, List, [], ◌∷◌, map, ℕ, zero, suc, ◌+◌, ◌<◌, ◌≤◌, eqb, leb, ltb, length, get_or, set}
-use Rattle.std.proofs.Common.{sym, ◌∙◌, one-add, arith, lt-ltb, le-leb, eqb-true, leb-true}
+use Rattle.std.specs.Prelude.{◌≡◌, refl, Bool, true, false, cond, not, ◌&&◌, ◌||◌, List, [], ◌∷◌, map, ℕ, zero, suc, ◌+◌, ◌<◌, ◌≤◌, eqb, leb, ltb, length, get_or, set, position, Some, None}
+use Rattle.std.specs.Option.{is_some}
+use Rattle.std.specs.List.{position_or_len}
+use Rattle.std.proofs.Common.{sym, ◌∙◌, ap, one-add, arith, ltb-true, lt-ltb, le-leb, eqb-true, leb-true}
 use Rattle.std.proofs.Math.Dec.{leb-suc-suc}
 use Rattle.std.proofs.lemmas.Bool.{not-true}
 use Rattle.std.proofs.lemmas.List.Sums.{passes_at_first}
@@ -79,6 +81,31 @@ free_slot_full (c ∷ cs) = go c.kept (free_slot_full cs) (kept_length cs)
         → ltb (cond (not (not b)) (1 + free_slot cs) 0) (suc (length cs)) ≡ ltb (length (cond b (c.position ∷ kept_of cs) (kept_of cs))) (suc (length cs))
     go true e h = below_next (free_slot cs) (length cs) ∙ e ∙ sym (leb-suc-suc (suc (length (kept_of cs))) (length cs))
     go false e h = lt-ltb 0 (suc (length cs)) (omega arith) ∙ sym (lt-ltb (length (kept_of cs)) (suc (length cs)) (omega arith))
+
+-- what a search of the slots gives
+module _ (p : Cue → Bool) (cs : List Cue) where
+  pub found_if : is_some (position p cs) ≡ ltb (position_or_len p cs) (length cs)
+  found_if = go (ltb (position_or_len p cs) (length cs)) refl
+    where
+      go : (b : Bool) → ltb (position_or_len p cs) (length cs) ≡ b → is_some (position p cs) ≡ ltb (position_or_len p cs) (length cs)
+      go true e = rw e
+      go false e = rw e
+
+  pub found_at : (j : ℕ) → position p cs ≡ Some j → (j ≡ position_or_len p cs) × (j < length cs)
+  found_at j e = go (ltb (position_or_len p cs) (length cs)) refl
+    where
+      go : (b : Bool) → ltb (position_or_len p cs) (length cs) ≡ b → (j ≡ position_or_len p cs) × (j < length cs)
+      go true h =
+          let k = rw h at e in
+          let m : j ≡ position_or_len p cs = cc in
+          (m, omega (arith, ltb-true (position_or_len p cs) (length cs) h))
+      go false h = let k = rw h at e in absurd (let z : ⊥ = cc in z)
+
+  pub found_none : position p cs ≡ None → ltb (position_or_len p cs) (length cs) ≡ false
+  found_none e = sym found_if ∙ ap is_some e
+
+pub slot_found : (x : ℕ) (cs : List Cue) → is_some (position (stands_at x) cs) ≡ is_in x (kept_of cs)
+slot_found x cs = found_if (stands_at x) cs ∙ slot_in x cs
 
 -- a cue put into a free slot is one member more
 pub kept_set : (cs : List Cue) (j : ℕ) (c d : Cue) → j < length cs → (get_or cs j d).kept ≡ false → c.kept ≡ true → Same (kept_of (set cs j c)) (c.position ∷ kept_of cs)

@@ -1,7 +1,9 @@
 -- What records that pass refusals 7 and 8 are, and that such records pass; what each call's tests leave true where they all pass. Assumes nothing.
-use Rattle.std.specs.Prelude.{◌≡◌, true, not, ◌&&◌, ℕ, ◌+◌, ◌*◌, ◌≤◌, ◌<◌, leb, ltb}
-use Rattle.std.proofs.Common.{le-leb, le-ltb, leb-true, ltb-false}
+use Rattle.std.specs.Prelude.{◌≡◌, true, not, ◌&&◌, ℕ, ◌+◌, ◌*◌, ◌≤◌, ◌<◌, leb, ltb, Result, Ok, Err}
+use Rattle.std.proofs.Common.{sym, ◌∙◌, ap, le-leb, le-ltb, leb-true, ltb-false}
 use Rattle.std.proofs.lemmas.Bool.{not-false}
+use Rattle.refusal.specs.declared.Refusal.{Refusal}
+use Rattle.refusal.specs.Refusal.{number_of, number_in}
 use Rattle.instrument.specs.declared.Instrument.{Instrument}
 use Rattle.instrument.specs.Valid.{valid}
 use Rattle.instrument.specs.Work.{part_cells}
@@ -16,6 +18,15 @@ use Rattle.machine.specs.Laws.{else_zero, test_passed, play_passed, cue_passed, 
 use Rattle.session_record.specs.declared.Session.{Session}
 use Rattle.session_record.specs.Record.{score_of, sound_session, sound_session_to, sound_records, work_test, record_refusal, open_refusal}
 use Rattle.session_record.specs.Record.{play_number, cue_number, go_number, insert_number, remove_number}
+
+-- ---- a refusal's number in an answer
+
+module _ {A : Type 0} (r : Result A Refusal) (n : ℕ) (met : number_in r ≡ n) where
+  pub refused_number : (e : Refusal) → r ≡ Err e → number_of e ≡ n
+  refused_number e is = sym (ap number_in is) ∙ met
+
+  pub passed_zero : (u : A) → r ≡ Ok u → n ≡ 0
+  passed_zero u is = sym met ∙ ap number_in is
 
 -- 7 and 8
 pub record Passed (i : Instrument) (s : Session) (cells : ℕ) : Type 0 where

@@ -72,11 +72,7 @@ pub fn open_refusal(instrument: Instrument, cells: usize) -> Result<(), Refusal>
 }
 
 // 7 and 8, with which every call on a session begins, and which are all that energies tests.
-pub fn record_refusal(
-    instrument: Instrument,
-    session: Session,
-    cells: usize,
-) -> Result<(), Refusal>
+pub fn record_refusal(instrument: Instrument, session: Session, cells: usize) -> Result<(), Refusal>
     ensures { number_in result ≡ record_refusal instrument session cells }
 {
     if !instrument::is_valid(instrument) {
@@ -137,7 +133,11 @@ pub fn start_of(session: Session, p: u64) -> u64
     ensures { (result ≡ start_of session.t (kept_of session.cues) p) × (result ≤ p) }
 {
     let near = session_cues::nearest(&session.cues, p);
-    if session.t <= p { near.max(session.t) } else { near }
+    if session.t <= p {
+        near.max(session.t)
+    } else {
+        near
+    }
 }
 
 // Where t stands after an edit at q.

@@ -1,5 +1,4 @@
-pub mod Runs
 pub mod PianoGiven
-pub mod PianoPieces
 pub mod Given
+pub mod Steps
 pub mod Pieces

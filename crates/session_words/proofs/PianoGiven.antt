@@ -7,12 +7,11 @@ use denote.Builtin.{f64}
 use denote.Floats.{passes}
 use denote.Laws.{Is}
 use denote.Shadow.{shadow}
-use denote.Enum.Declared as Chosen
+use Rattle.std.specs.Float.Ieee.{Float}
 use denote.Struct.Declared as Declared
 use Rattle.little_endian.specs.Floats.{Fit}
-use Rattle.points.specs.declared.HammerState.{HammerState}
-use Rattle.points.specs.declared.HammerState.TheVariants.{Resting, Flying}
-use Rattle.points.specs.contracts.HammerState as HammerType
+use Rattle.std.specs.Prelude.{Option, Some, None}
+use Rattle.points.specs.declared.Flight.{Flight}
 use Rattle.sample.specs.declared.Motion.{Motion}
 use Rattle.sample.specs.contracts.Motion as MotionType
 use Rattle.score.specs.declared.Piano.{Piano}
@@ -28,13 +27,13 @@ all_owned own P tells [] us g = tt
 all_owned own P tells (x ∷ xs) [] g = absurd g
 all_owned own P tells (x ∷ xs) (u ∷ us) g = (tells x u g.0, all_owned own P tells xs us g.1)
 
-fit_hammer : (h : HammerState) (vs : List Val) → Is (Chosen.row HammerType.the_type) h vs → FitHammer h
+fit_hammer : (h : Option Flight) (p : Float) (vs : List Val) → Is (Declared.row MotionType.the_type) (record { hammer = h; peak_force = p }) vs → FitHammer h
 unfolding FitHammer
-fit_hammer Resting vs g = tt
-fit_hammer (Flying k y v) vs g = let o = g.1.1.1.1 in (passes _ o.1.0.1, passes _ o.1.1.0.1)
+fit_hammer None p vs g = tt
+fit_hammer (Some f) p vs g = let o = g.1.1.0.1.1.1.1.0.1.1 in (passes _ o.1.0.1, passes _ o.1.1.0.1)
 
 fit_motion : (m : Motion) (vs : List Val) → Is (Declared.row MotionType.the_type) m vs → FitMotion m
-fit_motion m vs g = let o = g.1.1 in record { hammer = fit_hammer m.hammer _ o.0; peak = passes _ o.1.0.1 }
+fit_motion m vs g = record { hammer = fit_hammer m.hammer m.peak_force vs g; peak = passes _ g.1.1.1.0.1 }
 
 pub fit_piano : (p : Piano) (vs : List Val) → Is (Declared.row PianoType.the_type) p vs → FitPiano p
 fit_piano p vs g =

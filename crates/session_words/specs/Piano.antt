@@ -1,12 +1,11 @@
 -- A piano's small state as words: 16 held, 16 hand-damped, 16 damper resistances, 16 contact samples, the pedal, then the hammer (1 where
 -- it flies, its key's index, y_h, v_h) and peak force. A bool is 1 or 0, a float its bits. Then which words are a piano's. Definitions
 -- only: assumes nothing.
-use Rattle.std.specs.Prelude.{Bool, cond, ◌&&◌, List, [], ◌∷◌, ◌++◌, ℕ, eqb, leb, Float, get_or, drop}
+use Rattle.std.specs.Prelude.{Option, Some, None, Bool, cond, ◌&&◌, List, [], ◌∷◌, ◌++◌, ℕ, eqb, leb, Float, get_or, drop}
 use Rattle.std.specs.Float.{binary64}
 use Rattle.std.specs.Float.Ieee.{of_bits, to_bits}
 use Rattle.counting.specs.Every.{every}
-use Rattle.points.specs.declared.HammerState.{HammerState}
-use Rattle.points.specs.declared.HammerState.TheVariants.{Resting, Flying}
+use Rattle.points.specs.declared.Flight.{Flight}
 use Rattle.sample.specs.declared.Motion.{Motion}
 use Rattle.score.specs.declared.Piano.{Piano}
 use Rattle.session_words.specs.Layout.{peak_offset, hand_damped_offset, dampers_offset, contacts_offset, pedal_offset, motion_offset}
@@ -33,12 +32,15 @@ count_word n = n ∷ []
 abbrev pub count_of : List ℕ → ℕ
 count_of w = get_or w 0 0
 
-unfoldable pub hammer_words : HammerState → List ℕ
-hammer_words Resting = 0 ∷ 0 ∷ 0 ∷ 0 ∷ []
-hammer_words (Flying k y v) = 1 ∷ k ∷ to_bits binary64 y ∷ to_bits binary64 v ∷ []
+unfoldable pub hammer_words : Option Flight → List ℕ
+hammer_words None = 0 ∷ 0 ∷ 0 ∷ 0 ∷ []
+hammer_words (Some f) = 1 ∷ f.key_index ∷ to_bits binary64 f.y_h ∷ to_bits binary64 f.v_h ∷ []
 
-unfoldable pub hammer_from : List ℕ → HammerState
-hammer_from w = cond (eqb (get_or w 0 0) 1) (Flying (get_or w 1 0) (of_bits binary64 (get_or w 2 0)) (of_bits binary64 (get_or w 3 0))) Resting
+unfoldable pub hammer_from : List ℕ → Option Flight
+hammer_from w =
+    cond (eqb (get_or w 0 0) 1)
+    (Some (record { key_index = get_or w 1 0; y_h = of_bits binary64 (get_or w 2 0); v_h = of_bits binary64 (get_or w 3 0) }))
+    None
 
 unfoldable pub motion_words : Motion → List ℕ
 unfolding hammer_words

@@ -1,6 +1,6 @@
 -- Every piano is read back from its words, and they are told to be one's. `FitPiano` says what every value of the record's type has and a
 -- definition alone cannot see: its floats are f64s, its arrays as long as declared. Assumes nothing.
-use Rattle.std.specs.Prelude.{◌≡◌, refl, Bool, false, cond, ℕ, ◌+◌, eqb, Float, length, get_or, drop}
+use Rattle.std.specs.Prelude.{Option, Some, None, ◌≡◌, refl, Bool, false, cond, ℕ, ◌+◌, eqb, Float, length, get_or, drop}
 use Rattle.std.proofs.Common.{sym, ◌∙◌, drop_at, drop-drop}
 use Rattle.std.proofs.Math.Path.{ap}
 use Rattle.std.proofs.Math.Bool.{true}
@@ -11,8 +11,7 @@ use Rattle.std.specs.Float.Ieee.Bits.{of_bits-to_bits, of_bits-fits}
 use Rattle.std.proofs.Math.ListN.{length-append}
 use Rattle.counting.specs.Every.{every}
 use Rattle.little_endian.specs.Floats.{Fit}
-use Rattle.points.specs.declared.HammerState.{HammerState}
-use Rattle.points.specs.declared.HammerState.TheVariants.{Resting, Flying}
+use Rattle.points.specs.declared.Flight.{Flight}
 use Rattle.sample.specs.declared.Motion.{Motion}
 use Rattle.score.specs.declared.Piano.{Piano}
 use Rattle.session_words.specs.Layout.{hammer_size, motion_size, peak_offset, hand_damped_offset, dampers_offset, contacts_offset, pedal_offset, motion_offset, piano_size}
@@ -23,9 +22,9 @@ use Rattle.session_words.specs.Piano.{bit_of, flag_word, flag_of, float_word, fl
 abbrev pub Any : {A : Type 0} → A → Type 0
 Any x = Unit {0}
 
-unfoldable pub FitHammer : HammerState → Type 0
-FitHammer Resting = Unit {0}
-FitHammer (Flying k y v) = Fit y × Fit v
+unfoldable pub FitHammer : Option Flight → Type 0
+FitHammer None = Unit {0}
+FitHammer (Some f) = Fit f.y_h × Fit f.v_h
 
 pub record FitMotion (m : Motion) : Type 0 where
   pub hammer : FitHammer m.hammer
@@ -69,20 +68,20 @@ floats_length xs = joined_length Any float_word 1 (λ x h. refl) xs (all_any xs)
 pub counts_length : (xs : List ℕ) → length (joined count_word xs) ≡ length xs
 counts_length xs = joined_length Any count_word 1 (λ x h. refl) xs (all_any xs) ∙ omega arith
 
-pub hammer_length : (h : HammerState) → length (hammer_words h) ≡ hammer_size
+pub hammer_length : (h : Option Flight) → length (hammer_words h) ≡ hammer_size
 unfolding hammer_words
-hammer_length Resting = refl
-hammer_length (Flying k y v) = refl
+hammer_length None = refl
+hammer_length (Some f) = refl
 
 motion_length : (m : Motion) → length (motion_words m) ≡ motion_size
 unfolding motion_words
 motion_length m = length-append (hammer_words m.hammer) _ ∙ ap (λ (n : ℕ). n + 1) (hammer_length m.hammer)
 
 module _ (p : Float) (r : List ℕ) (fp : Fit p) where
-  motion_from : (h : HammerState) → FitHammer h → motion_of ((hammer_words h ++ (to_bits binary64 p ∷ [])) ++ r) ≡ record { hammer = h; peak_force = p }
+  motion_from : (h : Option Flight) → FitHammer h → motion_of ((hammer_words h ++ (to_bits binary64 p ∷ [])) ++ r) ≡ record { hammer = h; peak_force = p }
   unfolding motion_of hammer_from hammer_words FitHammer
-  motion_from Resting f = rw (of_bits-to_bits binary64 p fp)
-  motion_from (Flying i y v) f = rw (of_bits-to_bits binary64 p fp, of_bits-to_bits binary64 y f.0, of_bits-to_bits binary64 v f.1)
+  motion_from None f = rw (of_bits-to_bits binary64 p fp)
+  motion_from (Some h) f = rw (of_bits-to_bits binary64 p fp, of_bits-to_bits binary64 h.y_h f.0, of_bits-to_bits binary64 h.v_h f.1)
 
 motion_back : (m : Motion) → FitMotion m → (r : List ℕ) → motion_of (motion_words m ++ r) ≡ m
 unfolding motion_words
@@ -92,9 +91,9 @@ motion_passes : (m : Motion) (r : List ℕ) → is_flag (motion_words m ++ r) �
 unfolding motion_words hammer_words
 motion_passes m r = go m.hammer
   where
-    go : (h : HammerState) → is_flag ((hammer_words h ++ (to_bits binary64 m.peak_force ∷ [])) ++ r) ≡ true
-    go Resting = refl
-    go (Flying k y v) = refl
+    go : (h : Option Flight) → is_flag ((hammer_words h ++ (to_bits binary64 m.peak_force ∷ [])) ++ r) ≡ true
+    go None = refl
+    go (Some f) = refl
 
 -- ---- the piano
 
@@ -212,7 +211,7 @@ module _ (p : Piano) (f : FitPiano p) (r : List ℕ) where
 
 -- ---- whatever the words are, what is read from them is a value of the type
 
-fit_hammer_of : (t : Bool) (k a b : ℕ) → FitHammer (cond t (Flying k (of_bits binary64 a) (of_bits binary64 b)) Resting)
+fit_hammer_of : (t : Bool) (k a b : ℕ) → FitHammer (cond t (Some (record { key_index = k; y_h = of_bits binary64 a; v_h = of_bits binary64 b })) None)
 unfolding FitHammer
 fit_hammer_of true k a b = (of_bits-fits binary64 a, of_bits-fits binary64 b)
 fit_hammer_of false k a b = tt

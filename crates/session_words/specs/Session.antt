@@ -12,7 +12,7 @@ use Rattle.session_record.specs.declared.Session.{Session}
 use Rattle.session_words.specs.Layout.{timed_size, cue_size, cue_piano_offset, events_offset, cues_offset, piano_offset, session_size}
 use Rattle.session_words.specs.Items.{joined, items_of}
 use Rattle.session_words.specs.Piano.{bit_of, piano_words, piano_of, is_piano}
-use Rattle.session_words.specs.declared.Read.{Read}
+use Rattle.std.specs.Prelude.{Option, Some, None}
 
 -- ---- an event by its numbers
 
@@ -69,17 +69,19 @@ is_cue w = cond (eqb (get_or w 0 0) 0) true (eqb (get_or w 0 0) 1 && is_piano (d
 unfoldable pub counted_events : ℕ → ℕ
 counted_events n = cond (leb n 64) n 64
 
-unfoldable pub is_session : List ℕ → Bool
-is_session w =
-    eqb (length w) session_size
-    && (every (items_of is_timed timed_size (counted_events (get_or w 1 0)) (drop events_offset w))
+unfoldable pub has_meaning : List ℕ → Bool
+has_meaning w =
+    every (items_of is_timed timed_size (counted_events (get_or w 1 0)) (drop events_offset w))
     && every (items_of is_cue cue_size 4 (drop cues_offset w))
-    && is_piano (drop piano_offset w))
+    && is_piano (drop piano_offset w)
 
--- what reading w promises
-pub record ReadMeets (w : List ℕ) (r : Read) : Type 0 where
-  pub answer : r.is_session ≡ is_session w
-  pub reads : r.is_session ≡ true → r.session ≡ session_of w
+unfoldable pub is_session : List ℕ → Bool
+unfolding has_meaning
+is_session w = eqb (length w) session_size && has_meaning w
+
+-- the session that w is, where it is one's
+unfoldable pub session_in : List ℕ → Option Session
+session_in w = cond (is_session w) (Some (session_of w)) None
 
 -- what writing s into a slice that held w promises; r is the answer, w' what the slice holds then
 pub record PutMeets (s : Session) (w : List ℕ) (r : Bool) (w' : List ℕ) : Type 0 where

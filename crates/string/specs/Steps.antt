@@ -9,10 +9,7 @@ use Rattle.filter.specs.Filter.{stage_out, stage_cells, row_cells}
 use Rattle.filter.specs.Laws.{stage_length}
 use Rattle.filter.specs.Steps.{row_at, out_at, finish_out, finish_cells, row_at_length, finish_length, steps_out, steps_cells}
 use Rattle.string.specs.declared.StringDesign.{StringDesign}
-use Rattle.string.specs.String.{size_of, at_cR, at_filter, filter_size, at_yS, filter_part, read_at, v_in, filtered}
-
-abbrev pub at_row : StringDesign → ℕ
-at_row d = at_filter d + 2
+use Rattle.string.specs.String.{size_of, at_row, at_cR, at_filter, filter_size, at_yS, filter_part, read_at, v_in, filtered}
 
 -- Thiran's stage on what reaches the bridge
 unfoldable pub u_in : StringDesign → ℕ → List Float → Float

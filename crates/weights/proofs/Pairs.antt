@@ -1,51 +1,57 @@
--- The loop over pairs of a key and a weight, one turn each. Assumes nothing.
+-- The definitions as the code has them: a place as an answer, a test of each key, and the pairs one after the other. Assumes nothing.
 use mathlib.Core.Path.{◌≡◌, refl, sym, ap, ◌∙◌}
-use mathlib.Core.Bool.{Bool, true, false, ◌&&◌}
+use mathlib.Core.Bool.{Bool, true, false, cond, ◌&&◌}
 use mathlib.Core.List.{List, [], ◌∷◌}
-use mathlib.Core.Logic.{⊎_elim}
-use Prim.Native.Nat.{ℕ, ◌+◌, ◌≤◌, ◌<◌, min}
-use native.Mathlib.Numerals.{add-one}
+use Prim.Native.Nat.{ℕ, ◌≤◌, ◌<◌}
 use native.Mathlib.Omega.{arith}
 use lib.Dec.{eqb}
-use lib.ListN.{length, drop, get_or, drop_of_length-le}
-use lib.Seq.{drop-cons}
-use lib.Ieee.{Float, nan}
-use borrow.Author.Tests.{eqb-true}
-use Rattle.counting.specs.Below.{all_below}
-use Rattle.counting.specs.Laws.{lt_or_ge}
+use lib.ListN.{length}
+use lib.Ieee.{Float}
+use borrow.Author.Tests.{le-leb, lt-leb}
+use Rattle.std.specs.Prelude.{Option, Some, None, fold}
+use Rattle.std.specs.List.{zip, list_all}
+use lib.Seq.{take-length}
+use Rattle.std.proofs.lemmas.Option.{none-some}
+use Rattle.std.specs.Option.{unwrap_or}
 use Rattle.instrument.specs.declared.Instrument.{Instrument}
-use Rattle.weights.specs.Weights.{has_key, weighted, weighted_by, whole_pairs}
+use Rattle.instrument.specs.KeyIndex.{key_place}
+use Rattle.instrument.proofs.Lists.{all_first}
+use Rattle.weights.specs.Weights.{index_of, has_key, weighted, weighted_by, whole_pairs}
 
-no_weights : (i : Instrument) (keys : List ℕ) → weighted_by i keys [] ≡ i
-unfolding weighted_by
-no_weights i [] = refl
-no_weights i (key ∷ keys) = refl
+module _ (i : Instrument) (key : ℕ) where
+  abbrev placed : Option ℕ
+  placed = cond (has_key i key) (Some (index_of i key)) None
 
-module _ (i : Instrument) (keys : List ℕ) (weights : List Float) where
-  -- the pairs from j on bring x to what all of them bring i to
-  pub record Setting (x : Instrument) (j : ℕ) : Type 0 where
-    pub rest : weighted_by x (drop j keys) (drop j weights) ≡ weighted_by i keys weights
+  pub many_keys : 16 < i.key_count → None ≡ placed
+  unfolding has_key
+  many_keys h = rw (lt-leb i.key_count 16 h)
 
-  pub setting_turn : (x : Instrument) (j : ℕ) → Setting x j → j < length keys → j < length weights → Setting (weighted x (get_or keys j 0) (get_or weights j nan)) (j + 1)
-  unfolding weighted_by
-  setting_turn x j s h q = record { rest = rw add-one (rw (drop-cons keys j 0 h, drop-cons weights j nan q) at s.rest) }
+  pub few_keys : i.key_count ≤ 16 → key_place i key ≡ placed
+  unfolding has_key
+  few_keys h = rw (le-leb i.key_count 16 h)
 
-  pub setting_end : (x : Instrument) (j : ℕ) → Setting x j → min (length keys) (length weights) ≤ j → x ≡ weighted_by i keys weights
-  unfolding weighted_by
-  setting_end x j s h =
-      ⊎_elim
-      (λ (l : length keys < length weights). rw (drop_of_length-le keys {i = j} (omega arith)) at s.rest)
-      (λ (l : length weights ≤ length keys). sym (no_weights x (drop j keys)) ∙ rw (drop_of_length-le weights {i = j} (omega arith)) at s.rest)
-      (lt_or_ge (length keys) (length weights))
-
-  abbrev has_at : ℕ → Bool
-  has_at j = has_key i (get_or keys j 0)
-
-  -- where there are as many of both, all pairs are all keys
-  pub whole_is : (eqb (length keys) (length weights) && all_below (min (length keys) (length weights)) has_at) ≡ whole_pairs i keys weights
-  unfolding whole_pairs
-  whole_is = by_test (eqb (length keys) (length weights)) refl
+  -- a place that was found
+  pub found : (at : ℕ) → placed ≡ Some at → (has_key i key ≡ true) × (at ≡ index_of i key)
+  found at = go (has_key i key)
     where
-      by_test : (b : Bool) → eqb (length keys) (length weights) ≡ b → (b && all_below (min (length keys) (length weights)) has_at) ≡ (b && all_below (length keys) has_at)
-      by_test true e = let same = eqb-true (length keys) (length weights) e in ap (λ (m : ℕ). all_below m has_at) (omega arith)
-      by_test false e = refl
+      go : (t : Bool) → cond t (Some (index_of i key)) None ≡ Some at → (t ≡ true) × (at ≡ index_of i key)
+      go true e = (refl, sym (ap (λ o. unwrap_or o 0) e))
+      go false e = absurd (none-some at e)
+
+  pub not_found : placed ≡ None → has_key i key ≡ false
+  not_found = go (has_key i key)
+    where
+      go : (t : Bool) → cond t (Some (index_of i key)) None ≡ None → t ≡ false
+      go true e = absurd (none-some (index_of i key) (sym e))
+      go false e = refl
+
+pub whole_is : (i : Instrument) (keys : List ℕ) (weights : List Float) → (eqb (length keys) (length weights) && list_all (has_key i) keys) ≡ whole_pairs i keys weights
+unfolding whole_pairs
+whole_is i keys weights =
+    ap (λ (t : Bool). eqb (length keys) (length weights) && t) (ap (list_all (has_key i)) (sym (take-length keys)) ∙ all_first 0 (has_key i) keys (length keys) (omega arith))
+
+pub by_pairs : (i : Instrument) (keys : List ℕ) (weights : List Float) → fold (λ (x : Instrument) (p : ℕ × Float). weighted x p.0 p.1) i (zip keys weights) ≡ weighted_by i keys weights
+unfolding weighted_by
+by_pairs i [] ws = refl
+by_pairs i (key ∷ keys) [] = refl
+by_pairs i (key ∷ keys) (w ∷ ws) = by_pairs (weighted i key w) keys ws

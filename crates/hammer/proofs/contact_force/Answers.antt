@@ -8,5 +8,5 @@ use Rattle.hammer.proofs.contact_force.Goals as goal
 pub returns : goal.returns
 returns c =
     let a = c.args in
-    let e = c.search_force-search.ensures in
+    let e = c.search_force.ensures in
     (e, subst (λ (f : Float). ForceBound a.c0 a.c1 f) (sym e) (force_bound a.hammer a.eps_r a.c0 a.c1))

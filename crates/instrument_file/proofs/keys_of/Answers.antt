@@ -1,5 +1,4 @@
 -- The first n places hold the keys, and those behind them zeros.
-use native.Mathlib.Omega.{arith}
 use lib.ListN.{replicate}
 use Rattle.std.proofs.lemmas.List.{length-take-le}
 use Rattle.instrument_fields.specs.Unused.{no_key}

@@ -1,7 +1,6 @@
 -- The invariant: the strings of the keys before k are in place, m of them, and zeros after them. Start, turn and end are laws of proofs/Filled.antt.
 use mathlib.Core.Path.{refl, ap}
 use native.Mathlib.Omega.{arith}
-use lib.ListN.{length}
 use Rattle.std.proofs.lemmas.List.{length-take-le, get_or-take}
 use Rattle.instrument_fields.specs.declared.KeyDesign.{KeyDesign}
 use Rattle.instrument.specs.Valid.{past_key}
@@ -29,9 +28,11 @@ pub loop-k-preserved : goal.loop-k-preserved
 loop-k-preserved c =
     let i = c.loop-k.k in
     let room = strings_room c.loop-k.invariant.2 (omega (arith, c.loop-k.invariant.0)) in
-    let same = ap (λ (d : KeyDesign). d.strings) (get_or-take c.args.n c.args.keys i past_key (omega (arith, c.loop-k.invariant.0))) in
-    (c.loop-k.invariant.0, refl,
-    strings_turn c.loop-k.invariant.2 (omega (arith, c.loop-k.invariant.0)) c.section_at.array_long same (omega arith) (omega (arith, same, room)) c.section_at.ensures c.read_strings.ensures)
+    let same = ap (λ (d : KeyDesign). d.strings) (get_or-take c.args.n c.args.keys i past_key (omega (arith, c.loop-k.invariant.0))) in (
+      c.loop-k.invariant.0,
+      refl,
+      strings_turn c.loop-k.invariant.2 (omega (arith, c.loop-k.invariant.0)) c.section_at.array_long same (omega arith) (omega (arith, same, room)) c.section_at.ensures c.read_strings.ensures,
+    )
 
 pub returns : goal.returns
 returns c = strings_all c.loop-k.invariant.2 (omega (arith, c.loop-k.invariant.0))

@@ -1,16 +1,24 @@
--- Its number is the promised one; a refused call has stored nothing (`call_refused`), and an accepted one the file (`call_writes`).
-use Rattle.instrument_writer.proofs.Whole.{call_refused, may_store, call_writes}
+-- A refused call has stored nothing (`call_wrong`, `call_short`), and an accepted one the file (`call_writes`).
+use mathlib.Core.Path.{sym, ◌∙◌}
+use native.Mathlib.Omega.{arith}
+use Rattle.instrument_writer.proofs.Whole.{call_wrong, call_short, call_writes}
 use Rattle.instrument_writer.proofs.write.Goals as goal
 
-pub returns-then-number-ne0 : goal.returns-then-number-ne0
-returns-then-number-ne0 c =
-    call_refused _ _ _ _ _ c.is_given-given.ensures c.file_length-length.ensures c.refusal_of-number.ensures c.if-number-ne0.true
+pub returns-then-not-is_given : goal.returns-then-not-is_given
+returns-then-not-is_given c = call_wrong _ _ _ c.is_given.ensures c.if-not-is_given.true
+
+pub file_length-length-requires : goal.file_length-length-requires
+file_length-length-requires c = sym c.is_given.ensures.answer ∙ c.if-not-is_given.false
+
+pub returns-then-bytes-length : goal.returns-then-bytes-length
+returns-then-bytes-length c =
+    call_short _ _ _ c.is_given.ensures (sym c.is_given.ensures.answer ∙ c.if-not-is_given.false) _ c.file_length-length.ensures c.if-bytes-length.true
 
 pub put_file-requires : goal.put_file-requires
 put_file-requires c =
-    let bytes = c.args.bytes.now in
-    may_store _ bytes _ _ _ c.is_given-given.ensures c.file_length-length.ensures c.refusal_of-number.ensures c.if-number-ne0.false
+    (sym c.is_given.ensures.answer ∙ c.if-not-is_given.false, omega (arith, c.file_length-length.ensures))
 
 pub returns : goal.returns
 returns c =
-    call_writes _ _ _ _ _ c.is_given-given.ensures c.file_length-length.ensures c.refusal_of-number.ensures c.if-number-ne0.false _ c.put_file.ensures
+    call_writes _ _ _ c.is_given.ensures (sym c.is_given.ensures.answer ∙ c.if-not-is_given.false) _ c.file_length-length.ensures c.if-bytes-length.false _
+    c.put_file.ensures

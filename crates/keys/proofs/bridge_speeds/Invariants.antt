@@ -1,9 +1,9 @@
 -- `keys::bridge_speeds` meets its contract. The loop's invariant: what is left to do gives what the whole loop gives (`Folded` of crate cells). Assumes nothing.
-use Prim.Native.Nat.{◌-◌, ℕ}
+use Prim.Native.Nat.{ℕ}
 use Rattle.cells.specs.Numbered.{Folded}
 use Rattle.keys.specs.Keys.{constants_at, speed_of}
 use mathlib.Core.List.{List}
-use lib.ListN.{get_or, set}
+use lib.ListN.{length, get_or, set}
 use lib.Ieee.{Float, nan}
 use Rattle.keys.specs.declared.KeyConstants.{KeyConstants}
 use Rattle.keys.proofs.bridge_speeds.Given as goal
@@ -12,7 +12,4 @@ abbrev pub turn : Float → Float → ℕ → KeyConstants → List Float → Li
 turn yz total k key a = set a k (speed_of yz total key (get_or a k nan))
 
 abbrev pub invariant-loop-k : goal.invariant-loop-k
-invariant-loop-k l = Folded (constants_at l.table) (turn l.yz l.total) l.n l.initial.sums l.sums l.k
-
-abbrev pub decreases-loop-k : goal.decreases-loop-k
-decreases-loop-k l = l.n - l.k
+invariant-loop-k l = Folded (constants_at l.keys) (turn l.yz l.total) (length l.keys) l.initial.sums l.sums l.k

@@ -1,10 +1,10 @@
 -- `keys::move_dampers` meets its contract. The loop's invariant: what is left to do gives what the whole loop gives (`Folded` of crate cells). Assumes nothing.
-use Prim.Native.Nat.{◌-◌, ℕ}
+use Prim.Native.Nat.{ℕ}
 use Rattle.cells.specs.Numbered.{Folded}
 use Rattle.keys.specs.Keys.{constants_at, damped_of}
 use mathlib.Core.List.{List}
 use mathlib.Core.Bool.{Bool, false}
-use lib.ListN.{get_or, set}
+use lib.ListN.{length, get_or, set}
 use lib.Ieee.{Float, nan}
 use Rattle.keys.specs.declared.KeyConstants.{KeyConstants}
 use Rattle.keys.proofs.move_dampers.Given as goal
@@ -13,7 +13,4 @@ abbrev pub turn : List Bool → ℕ → KeyConstants → List Float → List Flo
 turn down k key r = set r k (damped_of key (get_or down k false) (get_or r k nan))
 
 abbrev pub invariant-loop-k : goal.invariant-loop-k
-invariant-loop-k l = Folded (constants_at l.table) (turn l.down) l.n l.initial.damper_r l.damper_r l.k
-
-abbrev pub decreases-loop-k : goal.decreases-loop-k
-decreases-loop-k l = l.n - l.k
+invariant-loop-k l = Folded (constants_at l.keys) (turn l.down) (length l.keys) l.initial.damper_r l.damper_r l.k

@@ -1,14 +1,9 @@
--- Past the first test x is a number. Assumes nothing.
-use mathlib.Core.Path.{sym, ap, subst}
-use mathlib.Core.Bool.{Bool, not}
-use lib.Dec.{T}
+-- Past the first test x is a number.
+use mathlib.Core.Path.{sym, ap, ◌∙◌}
 use lib.Ieee.{binary64, to_bits}
-use Rattle.float.specs.Numbers.{same_number, differs_nan}
+use Rattle.little_endian.proofs.Patterns.{nan_is}
 use Rattle.little_endian.proofs.bits_of.Goals as goal
 
-pub float_to_bits-result : goal.float_to_bits-result
-float_to_bits-result c = subst (λ (t : Bool). T (not t)) (sym (same_number c.args.x c.if-x.false)) tt
-
-pub returns-then-x : goal.returns-then-x
+pub returns-then-is_nan : goal.returns-then-is_nan
 unfolding to_bits
-returns-then-x c = ap (to_bits binary64) (sym (differs_nan c.args.x c.if-x.true))
+returns-then-is_nan c = ap (to_bits binary64) (nan_is c.args.x (sym c.is_nan.ensures.value ∙ c.if-is_nan.true))

@@ -1,13 +1,8 @@
--- Past the end nothing is stored; else the two halves, one behind the other.
-use mathlib.Core.Path.{sym}
-use Rattle.little_endian.specs.Numbers.{le64}
-use Rattle.little_endian.specs.Stores.{sets_out, stored_64}
+-- The number's bytes are stored.
+use mathlib.Core.Path.{ap, ◌∙◌}
+use Rattle.std.proofs.lemmas.List.Edits.{sets}
+use Rattle.little_endian.proofs.Ends.{bytes_64}
 use Rattle.little_endian.proofs.put_u64.Goals as goal
 
-pub returns-then-b-p : goal.returns-then-b-p
-returns-then-b-p c = let z = c.args in sym (sets_out z.b.now (le64 z.x) z.p c.if-b-p.true)
-
 pub returns : goal.returns
-returns c =
-    let z = c.args in
-    stored_64 z.b.now _ _ z.p z.x c.put_u32.ensures c.put_u32-2.ensures
+returns c = let z = c.args in c.put_bytes.ensures ∙ ap (sets z.b.now z.p) (c.to_le_bytes-bytes.ensures ∙ bytes_64 z.x)

@@ -1,12 +1,8 @@
--- Past the end both halves are 0.
-use mathlib.Core.Path.{sym}
-use Rattle.little_endian.specs.Numbers.{u32_at}
-use Rattle.little_endian.specs.Places.{u32_past}
+-- The number of the bytes that were read.
+use mathlib.Core.Path.{ap, ◌∙◌}
+use Rattle.std.specs.Int.{from_le_bytes, w32}
+use Rattle.little_endian.proofs.Ends.{read_32}
 use Rattle.little_endian.proofs.u32_at.Goals as goal
 
-pub returns-then-f-p : goal.returns-then-f-p
-returns-then-f-p c = sym (u32_past c.args.f.now _ c.if-f-p.true)
-
 pub returns : goal.returns
-unfolding u32_at
-returns c = cc
+returns c = c.from_le_bytes.ensures ∙ ap (from_le_bytes w32) c.bytes_at-bytes.ensures ∙ read_32 c.args.f.now c.args.p

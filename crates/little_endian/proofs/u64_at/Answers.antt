@@ -1,12 +1,8 @@
--- Past the end both halves are 0.
-use mathlib.Core.Path.{sym}
-use Rattle.little_endian.specs.Numbers.{u64_at}
-use Rattle.little_endian.specs.Places.{u64_past}
+-- The number of the bytes that were read.
+use mathlib.Core.Path.{ap, ◌∙◌}
+use Rattle.std.specs.Int.{from_le_bytes, w64}
+use Rattle.little_endian.proofs.Ends.{read_64}
 use Rattle.little_endian.proofs.u64_at.Goals as goal
 
-pub returns-then-f-p : goal.returns-then-f-p
-returns-then-f-p c = sym (u64_past c.args.f.now _ c.if-f-p.true)
-
 pub returns : goal.returns
-unfolding u64_at
-returns c = cc
+returns c = c.from_le_bytes.ensures ∙ ap (from_le_bytes w64) c.bytes_at-bytes.ensures ∙ read_64 c.args.f.now c.args.p

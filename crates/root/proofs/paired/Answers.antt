@@ -1,4 +1,5 @@
--- `root::paired`: what is scaled with an even exponent stays; with an odd one, twice the number with one less (proofs/Patterns.antt). Assumes nothing.
+-- `root::paired`: what is scaled with an even exponent stays; with an odd one, twice the number with one less
+-- (proofs/Patterns.antt). Assumes nothing.
 use Rattle.root.proofs.Patterns.{paired_odd}
 use Rattle.root.proofs.paired.Goals as goal
 

@@ -1,49 +1,29 @@
 -- `rows::filter_strings` meets its contract. The loop's invariant: the strings below i are filtered, and string i starts at `at`. Assumes nothing.
 use mathlib.Core.Path.{◌≡◌}
+use lib.ListN.{length}
 use native.Mathlib.Omega.{arith}
 use Rattle.string.specs.Table.{design_at}
-use Rattle.rows.specs.Laws.{below_none, below_turn, below_all}
+use Rattle.rows.specs.Laws.{below_none, below_turn, all_room, filtered_whole}
 use Rattle.rows.proofs.filter_strings.Goals as goal
 
-pub loop-i-init : goal.loop-i-init
-loop-i-init c =
+pub loop-next-init : goal.loop-next-init
+loop-next-init c =
     let args = c.args in
-    (omega arith, below_none (design_at args.lengths.now args.coefficients.now) args.t args.part.now args.v_in.now)
+    record { within = omega arith; below = below_none (design_at args.designs.now) args.t args.part.now args.v_in.now }
 
-pub filter_next-next-requires : goal.filter_next-next-requires
-filter_next-next-requires c =
-    let here = c.loop-i.invariant.1 in
-    let cells = here.cells.same in
-    let outputs = here.outputs.same in
-    record {
-      all_fit = c.requires.all_fit;
-      indexed = c.requires.indexed;
-      n_in_bounds = omega (arith, cells);
-      n_in_bounds_2 = omega (arith, outputs);
-      at_value = (here.end, c.loop-i-test.true);
-    }
-
-pub loop-i-smaller : goal.loop-i-smaller
-loop-i-smaller c =
+pub loop-next-preserved : goal.loop-next-preserved
+loop-next-preserved c =
+    let args = c.args in
     let next = c.filter_next-next.ensures in
-    omega (arith, next.next, next.some, next.below)
-
-pub loop-i-preserved : goal.loop-i-preserved
-loop-i-preserved c =
-    let args = c.args in
-    let next = c.filter_next-next.ensures in (
-      omega (arith, next.next, next.below),
-      below_turn (design_at args.lengths.now args.coefficients.now) c.loop-i.invariant.1 next c.requires.n_in_bounds c.requires.n_in_bounds_2,
-    )
-
-pub shape_of-part : goal.shape_of-part
-shape_of-part c = c.loop-i.invariant.1.cells.same
-
-pub shape_of-v_in : goal.shape_of-v_in
-shape_of-v_in c = c.loop-i.invariant.1.outputs.same
+    record {
+      within = omega (arith, next.next, next.below);
+      below = below_turn (design_at args.designs.now) c.loop-next.invariant.below next
+          (all_room args.designs.now args.part.now c.requires.has_cells) c.requires.has_v_in;
+    }
 
 pub returns : goal.returns
 returns c =
     let args = c.args in
-    let all : c.loop-i.i ≡ args.n = omega arith in
-    below_all (design_at args.lengths.now args.coefficients.now) (rw all at c.loop-i.invariant.1) c.requires.n_in_bounds_2
+    let all : c.loop-next.next.i ≡ length args.designs.now = omega arith in
+    filtered_whole args.designs.now args.t c.loop-next.next.at args.part.now c.loop-next.part args.v_in.now c.loop-next.v_in
+    (rw all at c.loop-next.invariant.below) c.requires.has_v_in

@@ -4,5 +4,4 @@ use Rattle.string.proofs.bridge_string.Goals as goal
 
 pub returns : goal.returns
 unfolding bridge_write
-returns c =
-    rw c.at_c_l-c_l.ensures at c.write_line.ensures
+returns c = rw (c.layout-at.ensures.c_l, c.requires.indices_at.c)

@@ -8,7 +8,8 @@ use Rattle.string.proofs.filter_string.Goals as goal
 pub returns : goal.returns
 unfolding v_in filtered
 returns c =
-    let at = c.args in
-    let n : c.at_y_s-y.result - c.at_filter-f.result ≡ filter_size at.d = omega (arith, c.at_y_s-y.ensures, c.at_filter-f.ensures) in
+    let l = c.layout-at.ensures in
+    let n : c.layout-at.result.y_s - c.layout-at.result.filter ≡ filter_size c.args.d = omega (arith, l.y_s, l.filter) in
     let call = c.loop_filter.ensures in
-    (rw (c.read_line-v.ensures, n, c.at_filter-f.ensures, c.at_c_r-c_r.ensures) at call.0, rw (call.1, c.read_line-v.ensures, n, c.at_filter-f.ensures, c.at_c_r-c_r.ensures))
+    let x = c.requires.indices_at.c in
+    (rw (n, l.filter, l.c_r, x) at call.0, rw (call.1, n, l.filter, l.c_r, x))

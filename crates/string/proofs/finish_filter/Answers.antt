@@ -9,7 +9,7 @@ use Rattle.string.proofs.finish_filter.Goals as goal
 pub returns : goal.returns
 unfolding finished_out finished
 returns c =
-    let at = c.args in
-    let n : c.at_y_s-y.result - c.at_filter-f.result ≡ filter_size at.d = omega (arith, c.at_y_s-y.ensures, c.at_filter-f.ensures) in
+    let l = c.layout-at.ensures in
+    let n : c.layout-at.result.y_s - c.layout-at.result.filter ≡ filter_size c.args.d = omega (arith, l.y_s, l.filter) in
     let call = c.finish.ensures in
-    (rw (n, c.at_filter-f.ensures) at call.0, rw (call.1, n, c.at_filter-f.ensures))
+    (rw (n, l.filter) at call.0, rw (call.1, n, l.filter))

@@ -16,13 +16,13 @@ module _ (t L i : ℕ) (h : i ≡ t % L) where
   goes_on l = sym (mod-eq_of_lt l) ∙ carried
 
 pub overflow_add-next : goal.overflow_add-next
-overflow_add-next c = let below = mod-lt c.args.t c.requires.0 in omega (arith, below, c.requires.1)
+overflow_add-next c = let below = mod-lt c.args.t c.requires.has_cells in omega (arith, below, c.requires.idx_at_t)
 
 pub returns-then-next-len : goal.returns-then-next-len
-returns-then-next-len c = let at = c.args in wraps at.t at.len at.idx c.requires.1 c.if-next-len.true
+returns-then-next-len c = let at = c.args in wraps at.t at.len at.idx c.requires.idx_at_t c.if-next-len.true
 
 pub returns-else-next-len : goal.returns-else-next-len
 returns-else-next-len c =
     let at = c.args in
-    let below = mod-lt at.t c.requires.0 in
-    goes_on at.t at.len at.idx c.requires.1 (omega (arith, below, c.requires.1, c.if-next-len.false))
+    let below = mod-lt at.t c.requires.has_cells in
+    goes_on at.t at.len at.idx c.requires.idx_at_t (omega (arith, below, c.requires.idx_at_t, c.if-next-len.false))

@@ -8,6 +8,8 @@ use Rattle.string.proofs.start_filter.Goals as goal
 pub returns : goal.returns
 unfolding u_in started
 returns c =
-    let n : c.at_row-e.result - c.at_filter-f.result ≡ 2 = omega (arith, c.at_row-e.ensures, c.at_filter-f.ensures) in
+    let l = c.layout-at.ensures in
+    let n : c.layout-at.result.row - c.layout-at.result.filter ≡ 2 = omega (arith, l.row, l.filter) in
     let call = c.allpass.ensures in
-    (rw (c.read_line-v.ensures, n, c.at_filter-f.ensures, c.at_c_r-c_r.ensures) at call.0, rw (call.1, c.read_line-v.ensures, n, c.at_filter-f.ensures, c.at_c_r-c_r.ensures))
+    let x = c.requires.indices_at.c in
+    (rw (n, l.filter, l.c_r, x) at call.0, rw (call.1, n, l.filter, l.c_r, x))

@@ -1,12 +1,9 @@
 -- `strings::bridge_strings` meets its contract. The loop's invariant: what is left to do gives what the whole walk gives (`WalkAt` of specs/Walk). Assumes nothing.
-use Prim.Native.Nat.{◌-◌}
 use Rattle.strings.specs.Strings.{bridge_one, bridge_force_one}
 use Rattle.strings.specs.Walk.{WalkAt}
 use Rattle.strings.proofs.bridge_strings.Given as goal
 
 abbrev pub invariant-loop-i : goal.invariant-loop-i
 invariant-loop-i l =
-    WalkAt (bridge_one l.v_b l.v_in l.t) (bridge_force_one l.z l.v_b l.v_in) l.lengths l.coefficients l.n l.initial.part l.initial.f_bridge l.part l.f_bridge l.at l.i
-
-abbrev pub decreases-loop-i : goal.decreases-loop-i
-decreases-loop-i l = l.n - l.i
+    WalkAt (bridge_one l.v_b l.v_in l.t) (bridge_force_one l.z l.v_b l.v_in) l.designs
+    l.initial.part l.initial.f_bridge l.part l.f_bridge l.at l.i

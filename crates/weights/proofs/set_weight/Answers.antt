@@ -1,48 +1,31 @@
--- Where the key is there, its place is below 16, and the record with that key set is the definition's; else nothing changes. Assumes nothing.
-use mathlib.Core.Path.{◌≡◌, sym, ◌∙◌}
-use mathlib.Core.Bool.{true}
+-- Where the key is there, its place is below 16, and the record with that key set is the definition's; else nothing changes.
+use mathlib.Core.Path.{sym, ◌∙◌}
 use native.Mathlib.Omega.{arith}
-use Rattle.weights.specs.Weights.{has_key, weighted_at}
+use Rattle.weights.specs.Weights.{key_weighted, weighted_at}
 use Rattle.weights.specs.Laws.{there_few, there_index, weighted_there, weighted_none}
+use Rattle.weights.proofs.Pairs.{found, not_found}
 use Rattle.weights.proofs.set_weight.Goals as goal
 
-pub returns-then-not-has_key : goal.returns-then-not-has_key
-returns-then-not-has_key c =
+pub offset_bounds-instrument-at : goal.offset_bounds-instrument-at
+offset_bounds-instrument-at c =
     let z = c.args in
-    sym (weighted_none z.i z.key (sym c.has_key.ensures ∙ c.if-not-has_key.true) z.weight)
+    let at = found z.i z.key _ (sym c.place_of.ensures ∙ c.in-Some.is) in
+    omega (arith, at.1, there_few z.i z.key at.0, there_index z.i z.key at.0)
 
-pub key_index-at-requires : goal.key_index-at-requires
-key_index-at-requires c =
+pub bounds-instrument-at : goal.bounds-instrument-at
+bounds-instrument-at c =
     let z = c.args in
-    there_few z.i z.key (sym c.has_key.ensures ∙ c.if-not-has_key.false)
+    let at = found z.i z.key _ (sym c.place_of.ensures ∙ c.in-Some.is) in
+    omega (arith, at.1, there_few z.i z.key at.0, there_index z.i z.key at.0)
 
-pub offset_bounds-keys-at : goal.offset_bounds-keys-at
-offset_bounds-keys-at c =
+pub returns-in-Some : goal.returns-in-Some
+unfolding weighted_at key_weighted
+returns-in-Some c =
     let z = c.args in
-    let there : has_key z.i z.key ≡ true = sym c.has_key.ensures ∙ c.if-not-has_key.false in
-    omega (arith, c.key_index-at.ensures, there_few z.i z.key there, there_index z.i z.key there)
+    let at = found z.i z.key _ (sym c.place_of.ensures ∙ c.in-Some.is) in
+    rw at.1 (sym (weighted_there z.i z.key at.0 z.weight))
 
-pub bounds-keys-at : goal.bounds-keys-at
-bounds-keys-at c =
+pub returns-in_default : goal.returns-in_default
+returns-in_default c =
     let z = c.args in
-    let there : has_key z.i z.key ≡ true = sym c.has_key.ensures ∙ c.if-not-has_key.false in
-    omega (arith, c.key_index-at.ensures, there_few z.i z.key there, there_index z.i z.key there)
-
-pub offset_bounds-keys-at-2 : goal.offset_bounds-keys-at-2
-offset_bounds-keys-at-2 c =
-    let z = c.args in
-    let there : has_key z.i z.key ≡ true = sym c.has_key.ensures ∙ c.if-not-has_key.false in
-    omega (arith, c.key_index-at.ensures, there_few z.i z.key there, there_index z.i z.key there)
-
-pub bounds-keys-at-2 : goal.bounds-keys-at-2
-bounds-keys-at-2 c =
-    let z = c.args in
-    let there : has_key z.i z.key ≡ true = sym c.has_key.ensures ∙ c.if-not-has_key.false in
-    omega (arith, c.key_index-at.ensures, there_few z.i z.key there, there_index z.i z.key there)
-
-pub returns : goal.returns
-unfolding weighted_at
-returns c =
-    let z = c.args in
-    let there : has_key z.i z.key ≡ true = sym c.has_key.ensures ∙ c.if-not-has_key.false in
-    rw (c.weight_key.ensures, c.key_index-at.ensures) (sym (weighted_there z.i z.key there z.weight))
+    sym (weighted_none z.i z.key (not_found z.i z.key (sym c.place_of.ensures ∙ c.in_default.is)) z.weight)

@@ -1,12 +1,18 @@
--- The test of the kind decides which bound the key has. Assumes nothing.
-use borrow.Author.Tests.{eq-eqb, ne_eqb}
+-- The kind decides which bound the key has. Assumes nothing.
+use Rattle.std.proofs.Common.{arith, le-leb}
+use Rattle.std.proofs.lemmas.Bool.{lt-leb}
+use borrow.Author.Tests.{ne_eqb}
 use Rattle.session_words.specs.Session.{is_event}
 use Rattle.session_words.proofs.event.is_event.Goals as goal
 
-pub returns-then-kind-eq2 : goal.returns-then-kind-eq2
+pub returns-in-2 : goal.returns-in-2
 unfolding is_event
-returns-then-kind-eq2 c = rw (eq-eqb c.args.kind 2 c.if-kind-eq2.true)
+returns-in-2 c = rw c.in-2.is
 
-pub returns-else-kind-eq2 : goal.returns-else-kind-eq2
+pub returns-then-kind-le3 : goal.returns-then-kind-le3
 unfolding is_event
-returns-else-kind-eq2 c = rw (ne_eqb c.args.kind 2 c.if-kind-eq2.false)
+returns-then-kind-le3 c = rw (ne_eqb c.args.kind 2 (λ h. omega (arith, h)), le-leb c.args.kind 3 c.if-kind-le3.true)
+
+pub returns-else-kind-le3 : goal.returns-else-kind-le3
+unfolding is_event
+returns-else-kind-le3 c = rw (ne_eqb c.args.kind 2 (λ h. omega (arith, h)), lt-leb c.args.kind 3 c.if-kind-le3.false)
