@@ -10,17 +10,17 @@ use std::io::Write;
 #[derive(Drop)]
 pub struct Answers<'a, R: System> {
     rt: &'a R,
-    buffer: &'a mut [u8; 16384],
+    buffer: [u8; 16384],
     held: usize,
     error: Option<io::Error>,
     ghost within: { held ≤ 16384 },
 }
 
 impl<'a, R: System> Answers<'a, R> {
-    pub fn new(rt: &'a R, buffer: &'a mut [u8; 16384]) -> Answers<'a, R> {
+    pub fn new(rt: &'a R) -> Answers<'a, R> {
         Answers {
             rt,
-            buffer,
+            buffer: [0; 16384],
             held: 0,
             error: None,
         }

@@ -8,11 +8,13 @@ mod progress;
 mod rehearsal;
 
 use program::arguments::{Arguments, Failure};
+use program::input::Input;
 use program::message::TransferError;
 use program::output::InUse;
 use program::system::{Program, System};
 use program::{arguments, input, output, streams};
 use progress::Failed;
+use std::fmt::{InlineText, Write};
 use std::io;
 use text::lines::Reader;
 
@@ -24,12 +26,24 @@ struct Names<'a> {
     forces: Option<&'a str>,
 }
 
+impl<'a> Names<'a> {
+    fn of(script: &'a str, wave: &'a str, forces: Option<&'a str>) -> Names<'a> {
+        Names {
+            script,
+            wave,
+            forces,
+        }
+    }
+}
+
 // What failed, by its name.
 fn tell(program: &Program<'_, impl System>, names: Names<'_>, failed: Failed) -> Failure {
     match failed {
         Failed::Script { line, error } => {
             let error = TransferError(error);
-            program.complain(names.script, format_args!("line {line}: {error}"))
+            let mut words = InlineText::<128>::new();
+            let _ = write!(words, "line {line}: {error}");
+            program.complain(names.script, words.as_str())
         }
         Failed::Answers(error) => program.complain("standard output", TransferError(error)),
         Failed::Wave(error) => program.complain(names.wave, TransferError(error)),
@@ -78,16 +92,15 @@ fn rehearse_embedded(program: &Program<'_, impl System>) -> Result<(), Failure> 
         forces: None,
     };
     let places = places::open_places(program, names.wave, names.forces, &[])?;
-    let mut reader = Reader::holding(embedded::script());
-    rehearsal::play_script(
+    let played = rehearsal::play_script(
         program.rt,
         instrument,
-        &mut reader,
-        &mut io::empty(),
+        Reader::holding(embedded::script()),
+        io::empty(),
         true,
         places,
-    )
-    .map_err(|failed| tell(program, names, failed))
+    );
+    played.map_err(|failed| tell(program, names, failed))
 }
 
 // ---- the files that are named
@@ -99,25 +112,24 @@ fn rehearse_on(
     names: Names<'_>,
 ) -> Result<(), Failure> {
     let loaded = instrument_input::load(program, instrument)?;
-    let mut script = places::open_script(program, names.script)?;
+    let Input { source, file } = places::open_script(program, names.script)?;
     let inputs = [
         InUse {
             file: loaded.file,
             name: "the instrument",
         },
         InUse {
-            file: script.file,
+            file,
             name: "the script",
         },
     ];
     output::check_streams(program, &inputs)?;
     let places = places::open_places(program, names.wave, names.forces, &inputs)?;
-    let mut reader = Reader::new();
     let played = rehearsal::play_script(
         program.rt,
         loaded.instrument,
-        &mut reader,
-        &mut script.source,
+        Reader::new(),
+        source,
         false,
         places,
     );
@@ -128,6 +140,19 @@ fn rehearse_on(
     played.map_err(|failed| tell(program, names, failed))
 }
 
+// FORCES, where it is given.
+fn forces_of<'b>(
+    program: &Program<'_, impl System>,
+    given: Arguments,
+    bytes: &'b mut [u8],
+) -> Result<Option<&'b str>, Failure> {
+    if given.count < 4 {
+        return Ok(None);
+    }
+    let path = given.path(program, 3, "FORCES", bytes)?;
+    Ok(Some(path))
+}
+
 fn rehearse_files(program: &Program<'_, impl System>, given: Arguments) -> Result<(), Failure> {
     let mut instrument = [0u8; 4096];
     let instrument = given.path(program, 0, "INSTRUMENT", &mut instrument)?;
@@ -135,21 +160,9 @@ fn rehearse_files(program: &Program<'_, impl System>, given: Arguments) -> Resul
     let script = given.path(program, 1, "SCRIPT", &mut script)?;
     let mut wave = [0u8; 4096];
     let wave = given.path(program, 2, "OUT.wav", &mut wave)?;
-    let mut bytes = [0u8; 4096];
-    let forces = if given.count == 4 {
-        Some(given.path(program, 3, "FORCES", &mut bytes)?)
-    } else {
-        None
-    };
-    rehearse_on(
-        program,
-        instrument,
-        Names {
-            script,
-            wave,
-            forces,
-        },
-    )
+    let mut forces = [0u8; 4096];
+    let forces = forces_of(program, given, &mut forces)?;
+    rehearse_on(program, instrument, Names::of(script, wave, forces))
 }
 
 // ---- the command line

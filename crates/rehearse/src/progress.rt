@@ -32,10 +32,10 @@ fn wall_time(rt: &impl System) -> u64 {
 
 impl<'a, R: System> Progress<'a, R> {
     // No line is read yet. Where the script is shown, its lines stand before their answers.
-    pub fn begun(rt: &'a R, answers: Answers<'a, R>, is_shown: bool) -> Progress<'a, R> {
+    pub fn begun(rt: &'a R, is_shown: bool) -> Progress<'a, R> {
         Progress {
             rt,
-            answers,
+            answers: Answers::new(rt),
             is_shown,
             line: 0,
             due: wall_time(rt).saturating_add(PATIENCE),
@@ -71,8 +71,7 @@ impl<'a, R: System> Progress<'a, R> {
             return Ok(());
         }
         let mark: &[u8] = if text.starts_with(b"#") { b"" } else { b"> " };
-        self.put_line(mark, text)
-            .map_err(|e| Failed::Answers(e))
+        self.put_line(mark, text).map_err(|e| Failed::Answers(e))
     }
 
     // ---- signs of life

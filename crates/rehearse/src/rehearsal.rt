@@ -1,5 +1,4 @@
 // A script's lines, one after the other: each is read, called, answered, and what it played is written.
-use crate::answers::Answers;
 use crate::places::Places;
 use crate::progress::{Failed, Progress};
 use console::parts::Task;
@@ -19,39 +18,40 @@ const PART: u64 = 8192;
 
 // `bytes` holds what is written of samples and forces.
 #[derive(Drop)]
-struct Rehearsal<'a, R: System, S: Read> {
+struct Rehearsal<'a, R: System, S: Read + Drop> {
     console: Console,
-    memory: Memory<'a>,
     progress: Progress<'a, R>,
-    reader: &'a mut Reader<65536>,
-    source: &'a mut S,
+    reader: Reader<65536>,
+    source: S,
     wave: Wave,
     forces: Option<Output>,
-    bytes: &'a mut [u8; 16384],
+    bytes: [u8; 16384],
 }
 
-impl<'a, R: System, S: Read> Rehearsal<'a, R, S> {
+impl<'a, R: System, S: Read + Drop> Rehearsal<'a, R, S> {
     // ---- what was played
 
     // The samples and forces of a play go into their files.
-    fn store(&mut self, turn: Turn) -> Result<(), Failed> {
+    fn store(&mut self, turn: Turn, memory: &Memory<'_>) -> Result<(), Failed> {
         if turn.samples == 0 {
             return Ok(());
         }
-        let samples = turn.samples.min(self.memory.out.len());
-        let stored = self.wave
-            .append(&self.memory.out[..samples], self.bytes)
+        let n = turn.samples.min(memory.out.len());
+        let stored = self
+            .wave
+            .append(&memory.out[..n], &mut self.bytes)
             .map_err(|e| Failed::Wave(e));
-        stored.and(self.store_forces(turn.forces))
+        let n = turn.forces.min(memory.trace.len());
+        stored.and(self.store_forces(&memory.trace[..n]))
     }
 
-    fn store_forces(&mut self, forces: usize) -> Result<(), Failed> {
-        let Some(file) = &mut self.forces else {
-            return Ok(());
-        };
-        let n = forces.min(self.memory.trace.len());
-        floats::write_floats(file, &self.memory.trace[..n], self.bytes)
-            .map_err(|unfinished| Failed::Forces(unfinished.error))
+    fn store_forces(&mut self, forces: &[f64]) -> Result<(), Failed> {
+        match &mut self.forces {
+            Some(file) => floats::write_floats(file, forces, &mut self.bytes).map_err(
+                |unfinished| Failed::Forces(unfinished.error),
+            ),
+            None => Ok(()),
+        }
     }
 
     // ---- one line
@@ -62,18 +62,18 @@ impl<'a, R: System, S: Read> Rehearsal<'a, R, S> {
     }
 
     // A line's call, in parts. Its answer comes behind the last part, also where a write has failed on the way: nothing is stored then, and the first failure stays.
-    fn call(&mut self, command: Command) -> Result<(), Failed> {
+    fn call(&mut self, command: Command, memory: &mut Memory<'_>) -> Result<(), Failed> {
         let mut outcome = Ok(());
         let mut task = Task::new(command);
         for _ in 0..u64::MAX {
             let part = task.next_part(&self.console, PART);
-            let called = self.console.answer(part, &mut self.memory);
+            let called = self.console.answer(part, memory);
             let turn = match called {
                 Ok(turn) => turn,
                 Err(failure) => return outcome.and(self.say(Err(failure))),
             };
             if outcome.is_ok() {
-                outcome = self.store(turn);
+                outcome = self.store(turn, memory);
             }
             let Some(rest) = task.after(part, turn) else {
                 return outcome.and(self.say(Ok(task.totalled(turn.reply))));
@@ -86,7 +86,7 @@ impl<'a, R: System, S: Read> Rehearsal<'a, R, S> {
 
     // The script's next line, or None at its end.
     fn ask(&mut self) -> Result<Option<Result<Command, Fault>>, Failed> {
-        match self.reader.next_line(self.source) {
+        match self.reader.next_line(&mut self.source) {
             Ok(Some(text)) => {
                 self.progress.show(text)?;
                 Ok(Some(command_of(text)))
@@ -122,22 +122,22 @@ impl<'a, R: System, S: Read> Rehearsal<'a, R, S> {
     }
 
     // Answers are out before a play's samples are written, which can fail.
-    fn play(&mut self, samples: u64) -> Result<(), Failed> {
+    fn play(&mut self, samples: u64, memory: &mut Memory<'_>) -> Result<(), Failed> {
         match self.check_room(samples) {
             Ok(()) => {
                 self.progress.flush()?;
-                self.call(Command::Play(samples))
+                self.call(Command::Play(samples), memory)
             }
             Err(fault) => self.say(Err(Failure::Bad(fault))),
         }
     }
 
-    fn rehearse(&mut self) -> Result<(), Failed> {
+    fn rehearse(&mut self, memory: &mut Memory<'_>) -> Result<(), Failed> {
         for _ in 0..u64::MAX {
             match self.next_line()? {
                 None => break,
-                Some(Ok(Command::Play(samples))) => self.play(samples)?,
-                Some(Ok(command)) => self.call(command)?,
+                Some(Ok(Command::Play(samples))) => self.play(samples, memory)?,
+                Some(Ok(command)) => self.call(command, memory)?,
                 Some(Err(fault)) => self.say(Err(Failure::Bad(fault)))?,
             }
         }
@@ -166,43 +166,39 @@ pub fn rate_of(instrument: Instrument) -> u64 {
 
 // The program's memory: document 01's largest instrument has five parts of 132,384 cells. The opening's line comes first, then the script's; all answers are out at the end.
 #[inline(never)]
-pub fn play_script<R: System, S: Read>(
+pub fn play_script<R: System, S: Read + Drop>(
     rt: &R,
     instrument: Instrument,
-    reader: &mut Reader<65536>,
-    source: &mut S,
+    reader: Reader<65536>,
+    source: S,
     is_shown: bool,
     places: Places,
 ) -> Result<(), Failed> {
     let mut work = [0.0; 662000];
     let mut out = [0.0; 8192];
     let mut trace = [0.0; 8192];
-    let mut buffer = [0u8; 16384];
-    let mut bytes = [0u8; 16384];
-    let memory = Memory::of(&mut work, &mut out, &mut trace);
-    let mut progress = Progress::begun(rt, Answers::new(rt, &mut buffer), is_shown);
-    let console = match Console::open(instrument, memory.work) {
-        Ok(console) => console,
-        Err(refusal) => {
-            let line = Line::of(refusal);
-            progress.say(line.as_str())?;
-            return progress.flush();
-        }
+    let mut memory = Memory::of(&mut work, &mut out, &mut trace);
+    let mut progress = Progress::begun(rt, is_shown);
+    let opened = Console::open(instrument, memory.work);
+    let line = match &opened {
+        Ok(console) => console.line_of(0, Ok(Reply::Called(Answer::Opened))),
+        Err(refusal) => Line::of(*refusal),
     };
-    let line = console.line_of(0, Ok(Reply::Called(Answer::Opened)));
     progress.say(line.as_str())?;
     progress.flush()?;
+    let Ok(console) = opened else {
+        return Ok(());
+    };
     let (wave, forces) = begin_files(places, rate_of(instrument))?;
     let mut rehearsal = Rehearsal {
         console,
-        memory,
         progress,
         reader,
         source,
         wave,
         forces,
-        bytes: &mut bytes,
+        bytes: [0; 16384],
     };
-    let rehearsed = rehearsal.rehearse();
+    let rehearsed = rehearsal.rehearse(&mut memory);
     rehearsed.and(rehearsal.progress.flush())
 }
