@@ -173,7 +173,7 @@ fn measure(instrument: &Instrument, key: &Key) {
 /// A row of the byte string.
 fn row(bytes: &[u8]) -> String {
     let digits: String = bytes.iter().map(|b| format!("\\x{b:02x}")).collect();
-    format!("            {digits}")
+    format!("        {digits}")
 }
 
 /// A section's rows: its first bytes, and then each string's.
@@ -190,10 +190,9 @@ fn module(instrument: &Instrument) -> String {
     lines.extend(rows(&sections[0], 40));
     lines.extend(sections[1..].iter().flat_map(|section| rows(section, KEY)));
     format!(
-        "// The instrument that `rehearse` has inside, as its file would have it. Written by compare/embedded.\n\
-         use text::put;\n\n\
-         // The whole file, and its length: the pairs of offset and length; the common section; each key, its own numbers first, then each of its strings.\n\
-         pub fn put_instrument(file: &mut [u8]) -> usize {{\n    put(\n        file,\n        0,\n        b\"\\\n{}\",\n    )\n}}\n",
+        "// The instrument that `rehearse` has inside, as its file would have it. Written by compare/embedded.\n\n\
+         // The whole file: the pairs of offset and length; the common section; each key, its own numbers first, then each of its strings.\n\
+         pub fn instrument() -> &'static [u8] {{\n    b\"\\\n{}\"\n}}\n",
         lines.join("\\\n")
     )
 }

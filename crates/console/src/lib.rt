@@ -1,21 +1,19 @@
-// The program `rehearse` without its files: one line of a script is one call, answered by one line of text. It holds the session and how much of its memory it lends.
+// The program `rehearse` without its files: one line of a script is one call, answered by one line of text. A console holds the instrument, the session and how much of its memory
+// it lends.
 #![tactic(auto)]
 
-ghost use Rattle.std.specs.Prelude.{◌≡◌, ◌≤◌, length, take};
-
 mod calls;
-mod contact_list;
-mod cue_list;
-mod energy_list;
 pub mod parts;
 mod replies;
-mod words;
+pub mod script;
 
+use energies::Energies;
 use instrument::Instrument;
-pub use replies::put_reply;
+use refusal::Refusal;
+pub use replies::Line;
+use script::{Buffer, Command, Fault};
 use session::{Answer, Outcome};
 use session_record::Session;
-use text::script::{Command, Fault, Kind};
 
 // The longest play, and the trace that a script can have lent.
 pub const LONGEST: u64 = 65536;
@@ -25,132 +23,154 @@ const MOST_SCRATCH: u64 = 256;
 
 // How many cells of each buffer a call gets. A trace of more cells than the program has is lent as all that it has: no part of a play is longer.
 #[derive(Clone, Copy)]
-pub struct Lent {
-    pub scratch: usize,
-    pub trace: usize,
-    pub work: usize,
+struct Lent {
+    scratch: usize,
+    trace: usize,
+    work: usize,
 }
 
 #[derive(Clone, Copy)]
 pub struct Console {
-    pub session: Session,
-    pub lent: Lent,
+    instrument: Instrument,
+    session: Session,
+    lent: Lent,
 }
 
-// What a line is answered: nothing, what it lacks, a call's answer, that it is done, or what it asked to see.
+// All that the program has of work memory, and of room for samples and forces.
+#[derive(Drop)]
+pub struct Memory<'a> {
+    pub work: &'a mut [f64],
+    pub out: &'a mut [f64],
+    pub trace: &'a mut [f64],
+}
+
+impl<'a> Memory<'a> {
+    pub fn of<const W: usize, const N: usize>(
+        work: &'a mut [f64; W],
+        out: &'a mut [f64; N],
+        trace: &'a mut [f64; N],
+    ) -> Memory<'a> {
+        Memory {
+            work: &mut work[..],
+            out: &mut out[..],
+            trace: &mut trace[..],
+        }
+    }
+}
+
+// What a line is answered: nothing, that it is done, a call's answer, or what it asked to see.
 #[derive(Clone, Copy)]
-pub enum Response {
+pub enum Reply {
     Skipped,
-    Bad(Fault),
-    Called(Answer),
     Done,
-    Energies,
+    Called(Answer),
+    Energies(Energies),
     State,
 }
 
-// A line's reply, and how many samples and forces its call put into the lent buffers.
+// Why a line is not answered so.
+#[derive(Clone, Copy)]
+pub enum Failure {
+    Bad(Fault),
+    Refused(Refusal),
+}
+
+impl From<Fault> for Failure {
+    fn from(fault: Fault) -> Failure {
+        Failure::Bad(fault)
+    }
+}
+
+impl From<Refusal> for Failure {
+    fn from(refusal: Refusal) -> Failure {
+        Failure::Refused(refusal)
+    }
+}
+
+// A line's reply, and how many samples and forces its call put into the memory.
 #[derive(Clone, Copy)]
 pub struct Turn {
-    pub console: Console,
-    pub reply: Response,
+    pub reply: Reply,
     pub samples: usize,
     pub forces: usize,
 }
 
-// How many of the cells are lent where n are asked for; the second part lets `&mut cells[..r]` need no proof.
-pub fn fitting(n: usize, cells: &[f64]) -> usize
-    ensures { (result ≤ length cells.now) × (result ≡ length (take result cells.now)) }
-{
-    if n < cells.len() { n } else { cells.len() }
-}
-
-fn replied(console: Console, reply: Response) -> Turn {
-    Turn {
-        console,
-        reply,
-        samples: 0,
-        forces: 0,
-    }
-}
-
-fn called(lent: Lent, outcome: Outcome) -> Turn {
-    let session = outcome.session;
-    let answer = outcome.answer;
-    replied(Console { session, lent }, Response::Called(answer))
-}
-
-// At the start: the scratch cells that play and go ask for, all of the trace, all of the work memory.
-pub fn open(instrument: Instrument, work: &mut [f64]) -> Turn {
-    let lent = Lent {
-        scratch: session_record::scratch_cells(instrument),
-        trace: LONGEST as usize,
-        work: work.len(),
-    };
-    called(lent, session::open(instrument, work))
-}
-
-// Whether the session was opened.
-pub fn is_opened(reply: Response) -> bool {
-    match reply {
-        Response::Called(answer) => is_opening(answer),
-        _ => false,
-    }
-}
-
-fn is_opening(answer: Answer) -> bool {
-    match answer {
-        Answer::Opened => true,
-        _ => false,
-    }
-}
-
-// From here on n cells of a buffer are lent.
-fn lent_with(lent: Lent, kind: Kind, n: usize) -> Lent {
-    let mut next = lent;
-    match kind {
-        Kind::LendScratch => {
-            next.scratch = n;
-            next
-        }
-        Kind::LendTrace => {
-            next.trace = n;
-            next
-        }
-        _ => {
-            next.work = n;
-            next
+impl From<Reply> for Turn {
+    fn from(reply: Reply) -> Turn {
+        Turn {
+            reply,
+            samples: 0,
+            forces: 0,
         }
     }
 }
 
-// A buffer of `cells` cells lends no more.
-fn lend(console: Console, kind: Kind, n: u64, cells: u64) -> Turn {
-    if cells < n {
-        return replied(console, Response::Bad(Fault::TooLarge));
+impl Console {
+    // At the start: the scratch cells that play and go ask for, all of the trace, all of the work memory.
+    pub fn open(instrument: Instrument, work: &mut [f64]) -> Result<Console, Refusal> {
+        let lent = Lent {
+            scratch: session_record::scratch_cells(instrument),
+            trace: LONGEST as usize,
+            work: work.len(),
+        };
+        let Outcome { answer, session } = session::open(instrument, work);
+        answer?;
+        Ok(Console {
+            instrument,
+            session,
+            lent,
+        })
     }
-    let session = console.session;
-    let lent = lent_with(console.lent, kind, n as usize);
-    replied(Console { session, lent }, Response::Done)
-}
 
-// One line's command. `work`, `out` and `trace` are all that the program has.
-pub fn answer(
-    instrument: Instrument,
-    console: Console,
-    command: Command,
-    work: &mut [f64],
-    out: &mut [f64],
-    trace: &mut [f64],
-) -> Turn {
-    let kind = command.kind;
-    match kind {
-        Kind::Blank => replied(console, Response::Skipped),
-        Kind::Bad(fault) => replied(console, Response::Bad(fault)),
-        Kind::Energies => replied(console, Response::Energies),
-        Kind::State => replied(console, Response::State),
-        Kind::LendScratch => lend(console, kind, command.number, MOST_SCRATCH),
-        Kind::LendTrace => lend(console, kind, command.number, LONGEST),
-        Kind::LendWork => lend(console, kind, command.number, work.len() as u64),
-        _ => calls::call(instrument, console, command, work, out, trace),
+    pub fn position(&self) -> u64 {
+        self.session.t
+    }
+
+    // What a call leaves of the session, and its answer.
+    fn keep(&mut self, outcome: Outcome) -> Result<Answer, Refusal> {
+        self.session = outcome.session;
+        outcome.answer
+    }
+
+    // From here on so many cells of a buffer are lent, of which the program has `most`.
+    fn lend(&mut self, buffer: Buffer, cells: u64, most: u64) -> Result<Reply, Fault> {
+        if most < cells {
+            return Err(Fault::TooLarge);
+        }
+        let cells = cells as usize;
+        match buffer {
+            Buffer::Scratch => self.lent.scratch = cells,
+            Buffer::Trace => self.lent.trace = cells,
+            Buffer::Work => self.lent.work = cells,
+        }
+        Ok(Reply::Done)
+    }
+
+    fn energies(&self, work: &[f64]) -> Result<Energies, Refusal> {
+        let cells = self.lent.work.min(work.len());
+        energies::key_energies(self.instrument, self.session, &work[..cells])
+    }
+
+    // One line's command. Where it fails nothing was played.
+    pub fn answer(&mut self, command: Command, memory: &mut Memory<'_>) -> Result<Turn, Failure> {
+        let reply = match command {
+            Command::Blank => Reply::Skipped,
+            Command::State => Reply::State,
+            Command::Energies => Reply::Energies(self.energies(memory.work)?),
+            Command::Lend { buffer, cells } => {
+                let most = match buffer {
+                    Buffer::Scratch => MOST_SCRATCH,
+                    Buffer::Trace => LONGEST,
+                    Buffer::Work => memory.work.len() as u64,
+                };
+                self.lend(buffer, cells, most)?
+            }
+            Command::Play(samples) => return self.play(samples, memory),
+            Command::Cue => Reply::Called(self.cue(memory.work)?),
+            Command::Go(position) => Reply::Called(self.go(position, memory.work)?),
+            Command::Insert(timed) => Reply::Called(self.insert(timed, memory.work)?),
+            Command::Remove(index) => Reply::Called(self.remove(index, memory.work)?),
+        };
+        Ok(Turn::from(reply))
     }
 }

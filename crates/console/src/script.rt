@@ -1,7 +1,7 @@
 // A script's lines: one call a line, in words and decimal numbers.
-use crate::number::{number_of, real_of};
-use crate::word::{Words, words_of};
+use score::{Event, TimedEvent};
 use std::fmt;
+use text::{Words, number_of, real_of, words_of};
 
 // What a line asks for. The numbers are a count of samples, a position, an event's index and a count of cells.
 #[derive(Clone, Copy)]
@@ -10,19 +10,11 @@ pub enum Command {
     Play(u64),
     Cue,
     Go(u64),
-    Insert { position: u64, event: Event },
+    Insert(TimedEvent),
     Remove(u64),
     Energies,
     State,
     Lend { buffer: Buffer, cells: u64 },
-}
-
-#[derive(Clone, Copy)]
-pub enum Event {
-    NoteOn { key: u8, velocity: f64 },
-    NoteOff { key: u8 },
-    HandDamp { key: u8 },
-    Pedal { is_down: bool },
 }
 
 #[derive(Clone, Copy)]
@@ -132,8 +124,8 @@ fn last_key(words: Words<'_>) -> Result<u8, Fault> {
 
 fn pedal(words: Words<'_>) -> Result<Event, Fault> {
     match last_word(words)? {
-        b"up" => Ok(Event::Pedal { is_down: false }),
-        b"down" => Ok(Event::Pedal { is_down: true }),
+        b"up" => Ok(Event::Pedal(false)),
+        b"down" => Ok(Event::Pedal(true)),
         _ => Err(Fault::NoDirection),
     }
 }
@@ -154,7 +146,7 @@ fn insert(mut words: Words<'_>) -> Result<Command, Fault> {
     let name = words.next().ok_or(Fault::NoEvent)?;
     let position = number_in(position)?;
     let event = event_of(name, words)?;
-    Ok(Command::Insert { position, event })
+    Ok(Command::Insert(TimedEvent { position, event }))
 }
 
 // ---- lines

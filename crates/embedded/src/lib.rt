@@ -4,5 +4,5 @@
 mod phrase;
 mod piano;
 
-pub use phrase::put_script;
-pub use piano::put_instrument;
+pub use phrase::script;
+pub use piano::instrument;

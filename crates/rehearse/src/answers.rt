@@ -1,52 +1,56 @@
 // Answers on their way to standard output.
-use little_endian::part;
+ghost use Rattle.std.specs.Prelude.{◌≤◌};
+
 use program::output;
 use program::system::System;
+use std::io;
+use std::io::Write;
 
-// Of the buffer the first `held` bytes wait to be written. `error` is the system's number once a write has failed; nothing is written behind it.
-#[derive(Clone, Copy)]
-pub struct Answers {
-    pub held: usize,
-    pub error: i32,
+// Of the buffer the first `held` bytes wait to be written. Once a write has failed nothing is written behind it.
+#[derive(Drop)]
+pub struct Answers<'a, R: System> {
+    rt: &'a R,
+    buffer: [u8; 16384],
+    held: usize,
+    error: Option<io::Error>,
+    ghost within: { held ≤ 16384 },
 }
 
-pub fn none() -> Answers {
-    Answers { held: 0, error: 0 }
-}
-
-pub fn flush(rt: &impl System, buffer: &[u8], answers: Answers) -> Answers {
-    if answers.error != 0 {
-        return answers;
-    }
-    let written = output::write(&mut rt.answers(), part(buffer, 0, answers.held));
-    Answers {
-        held: 0,
-        error: written.error,
+impl<'a, R: System> Answers<'a, R> {
+    pub fn new(rt: &'a R) -> Answers<'a, R> {
+        Answers {
+            rt,
+            buffer: [0; 16384],
+            held: 0,
+            error: None,
+        }
     }
 }
 
-fn flush_full(rt: &impl System, buffer: &[u8], answers: Answers) -> Answers {
-    if answers.held < buffer.len() {
-        return answers;
+impl<'a, R: System> Write for Answers<'a, R> {
+    fn write(&mut self, bytes: &[u8]) -> io::Result<usize> {
+        if self.held == 16384 {
+            self.flush()?;
+        }
+        let start = self.held;
+        let n = bytes.len().min(16384 - start);
+        self.buffer[start..start + n].copy_from_slice(&bytes[..n]);
+        self.held = start + n;
+        Ok(n)
     }
-    flush(rt, buffer, answers)
-}
 
-fn put_byte(rt: &impl System, buffer: &mut [u8], answers: Answers, b: u8) -> Answers {
-    let mut next = flush_full(rt, buffer, answers);
-    let at = next.held;
-    if at < buffer.len() {
-        buffer[at] = b;
-        next.held = at + 1;
+    fn flush(&mut self) -> io::Result<()> {
+        if let Some(error) = self.error {
+            return Err(error);
+        }
+        let held = self.held;
+        self.held = 0;
+        match output::write(&mut self.rt.answers(), &self.buffer[..held]) {
+            Ok(()) => Ok(()),
+            Err(unfinished) => {
+                self.error = Some(unfinished.error);
+                Err(unfinished.error)
+            }
+        }
     }
-    next
-}
-
-pub fn put(rt: &impl System, buffer: &mut [u8], answers: Answers, bytes: &[u8]) -> Answers {
-    let mut next = answers;
-    for i in 0..bytes.len() {
-        let more = put_byte(rt, buffer, next, bytes[i]);
-        next = more;
-    }
-    next
 }

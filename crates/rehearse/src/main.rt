@@ -7,232 +7,180 @@ mod places;
 mod progress;
 mod rehearsal;
 
-use instrument::Instrument;
-use little_endian::part;
-use places::Places;
-use program::arguments::{Arguments, DONE, WRONG};
-use program::message::{complain, complain_at, complain_of};
-use program::system::System;
-use program::{arguments, input, kind, message, output, streams};
-use progress::{Ending, Progress};
-use text::lines;
+use program::arguments::{Arguments, Failure};
+use program::input::Input;
+use program::message::TransferError;
+use program::output::InUse;
+use program::system::{Program, System};
+use program::{arguments, input, output, streams};
+use progress::Failed;
+use std::fmt::{InlineText, Write};
+use std::io;
+use text::lines::Reader;
 
-// What failed, by its name, and the status that it gives.
-fn tell(rt: &impl System, p: Progress, script: &[u8], wav: &[u8], forces: &[u8]) -> u8 {
-    let ending = p.ending;
-    match ending {
-        Ending::GoesOn => DONE,
-        Ending::Finished => DONE,
-        Ending::ScriptFailed(error) => {
-            complain_at(rt, b"rehearse", script, p.line, error);
-            WRONG
-        }
-        Ending::AnswersFailed(error) => {
-            complain_of(rt, b"rehearse", b"standard output", error);
-            WRONG
-        }
-        Ending::WaveFailed(error) => {
-            complain_of(rt, b"rehearse", wav, error);
-            WRONG
-        }
-        Ending::ForcesFailed(error) => {
-            complain_of(rt, b"rehearse", forces, error);
-            WRONG
+// What the script and the outputs are called.
+#[derive(Clone, Copy)]
+struct Names<'a> {
+    script: &'a str,
+    wave: &'a str,
+    forces: Option<&'a str>,
+}
+
+impl<'a> Names<'a> {
+    fn of(script: &'a str, wave: &'a str, forces: Option<&'a str>) -> Names<'a> {
+        Names {
+            script,
+            wave,
+            forces,
         }
     }
 }
 
-fn rate_of(instrument: Instrument) -> u64 {
-    let common = instrument.common;
-    float::round_away(common.fs)
+// What failed, by its name.
+fn tell(program: &Program<'_, impl System>, names: Names<'_>, failed: Failed) -> Failure {
+    match failed {
+        Failed::Script { line, error } => {
+            let error = TransferError(error);
+            let mut words = InlineText::<128>::new();
+            let _ = write!(words, "line {line}: {error}");
+            program.complain(names.script, words.as_str())
+        }
+        Failed::Answers(error) => program.complain("standard output", TransferError(error)),
+        Failed::Wave(error) => program.complain(names.wave, TransferError(error)),
+        Failed::Forces(error) => {
+            program.complain(names.forces.unwrap_or(""), TransferError(error))
+        }
+    }
 }
 
 // ---- what the program has inside
 
-fn rehearse_phrase(rt: &impl System, instrument: Instrument, opened: Places) -> u8 {
-    let mut places = opened;
-    places.wave.rate = rate_of(instrument);
-    let mut input = [0u8; 65536];
-    let k = embedded::put_script(&mut input);
-    let begun = progress::begun(rt, lines::from_bytes(k), true);
-    let last = rehearsal::play_script(rt, instrument, begun, &mut places, &mut input);
-    tell(rt, last, b"the script", b"rehearsal.wav", b"")
-}
+// Nobody named this file.
+const WAVE: &str = "rehearsal.wav";
 
-// Whether rehearsal.wav may be written: nobody named it, so one that is there goes only where it is empty or begins as this program's WAVs do (all that stands before their number of samples).
-fn is_own(rt: &impl System, path: &[u8], rate: u64) -> bool {
-    let mut opened = input::open(rt, b"rehearse", path);
-    if !input::is_open(&opened) {
+// Whether a file that is there may go: it is empty, or begins as this program's WAVs do (all that stands before their number of samples).
+fn is_own(program: &Program<'_, impl System>, rate: u64) -> bool {
+    let Ok(mut opened) = input::open(program, WAVE) else {
         return false;
-    }
+    };
     let mut bytes = [0u8; 46];
-    let read = input::read_all(&mut opened.source, &mut bytes);
     let header = wav::header(rate, 0);
-    let is_begun = check::same(part(&bytes, 0, 4), part(&header, 0, 4))
-        & check::same(part(&bytes, 8, 38), part(&header, 8, 38));
-    (read.error == 0) & ((read.count == 0) | is_begun)
+    match input::read_all(&mut opened.source, &mut bytes) {
+        Ok(0) => true,
+        Ok(_) => bytes[..4] == header[..4] && bytes[8..] == header[8..46],
+        Err(_) => false,
+    }
 }
 
-fn is_free(rt: &impl System, path: &[u8], rate: u64) -> bool {
-    let file = file_status::status_at(rt, path);
-    if !kind::is_regular(file) {
-        return true;
+fn check_own(program: &Program<'_, impl System>, rate: u64) -> Result<(), Failure> {
+    match file_status::status_at(program.rt, WAVE) {
+        Some(file) if file.is_regular() && !is_own(program, rate) => Err(program.complain(
+            WAVE,
+            "it is there, and not by this program; it is left as it is",
+        )),
+        _ => Ok(()),
     }
-    if is_own(rt, path, rate) {
-        return true;
-    }
-    complain(
-        rt,
-        b"rehearse",
-        path,
-        b"it is there, and not by this program; it is left as it is",
-    );
-    false
 }
 
 // No file is read, so only answers and messages are in use.
-fn rehearse_embedded(rt: &impl System) -> u8 {
-    let mut file = [0u8; 2048];
-    let n = embedded::put_instrument(&mut file);
-    let nothing = file_status::unknown();
-    let loaded = instrument_input::accept(
-        rt,
-        b"rehearse",
-        b"the instrument",
-        part(&file, 0, n),
-        nothing,
+fn rehearse_embedded(program: &Program<'_, impl System>) -> Result<(), Failure> {
+    let instrument = instrument_input::accept(program, "the instrument", embedded::instrument())?;
+    check_own(program, rehearsal::rate_of(instrument))?;
+    let names = Names {
+        script: "the script",
+        wave: WAVE,
+        forces: None,
+    };
+    let places = places::open_places(program, names.wave, names.forces, &[])?;
+    let played = rehearsal::play_script(
+        program.rt,
+        instrument,
+        Reader::holding(embedded::script()),
+        io::empty(),
+        true,
+        places,
     );
-    if loaded.status != DONE {
-        return loaded.status;
-    }
-    if !is_free(rt, b"rehearsal.wav", rate_of(loaded.instrument)) {
-        return WRONG;
-    }
-    let used = output::in_use(rt, nothing, nothing);
-    let places = places::open_places(rt, b"rehearsal.wav", b"", false, used);
-    if !places.are_open {
-        return WRONG;
-    }
-    rehearse_phrase(rt, loaded.instrument, places)
+    played.map_err(|failed| tell(program, names, failed))
 }
 
 // ---- the files that are named
 
-fn rehearse_script(
-    rt: &impl System,
-    instrument: Instrument,
-    opened: Places,
-    script: &[u8],
-    wav: &[u8],
-    forces: &[u8],
-) -> u8 {
-    let mut places = opened;
-    places.wave.rate = rate_of(instrument);
-    let mut input = [0u8; 65536];
-    let begun = progress::begun(rt, lines::from_file(), false);
-    let last = rehearsal::play_script(rt, instrument, begun, &mut places, &mut input);
-    if places::is_standard_input(script) {
-        return tell(rt, last, b"standard input", wav, forces);
-    }
-    tell(rt, last, script, wav, forces)
-}
-
 // The inputs are opened first, then what is written.
 fn rehearse_on(
-    rt: &impl System,
-    instrument: &[u8],
-    script: &[u8],
-    wav: &[u8],
-    forces: &[u8],
-    has_forces: bool,
-) -> u8 {
-    let loaded = instrument_input::load(rt, b"rehearse", instrument);
-    if loaded.status != DONE {
-        return loaded.status;
+    program: &Program<'_, impl System>,
+    instrument: &str,
+    names: Names<'_>,
+) -> Result<(), Failure> {
+    let loaded = instrument_input::load(program, instrument)?;
+    let Input { source, file } = places::open_script(program, names.script)?;
+    let inputs = [
+        InUse {
+            file: loaded.file,
+            name: "the instrument",
+        },
+        InUse {
+            file,
+            name: "the script",
+        },
+    ];
+    output::check_streams(program, &inputs)?;
+    let places = places::open_places(program, names.wave, names.forces, &inputs)?;
+    let played = rehearsal::play_script(
+        program.rt,
+        loaded.instrument,
+        Reader::new(),
+        source,
+        false,
+        places,
+    );
+    let mut names = names;
+    if places::is_standard_input(names.script) {
+        names.script = "standard input";
     }
-    let input = places::open_script(rt, script);
-    if !input::is_open(&input) {
-        return WRONG;
-    }
-    let used = output::in_use(rt, loaded.file, input.file);
-    if !output::are_streams_apart(rt, b"rehearse", used) {
-        return WRONG;
-    }
-    let mut places = places::open_places(rt, wav, forces, has_forces, used);
-    if !places.are_open {
-        return WRONG;
-    }
-    places.script = places::script_of(input.source);
-    rehearse_script(rt, loaded.instrument, places, script, wav, forces)
+    played.map_err(|failed| tell(program, names, failed))
 }
 
-fn rehearse_with_forces(
-    rt: &impl System,
+// FORCES, where it is given.
+fn forces_of<'b>(
+    program: &Program<'_, impl System>,
     given: Arguments,
-    instrument: &[u8],
-    script: &[u8],
-    wav: &[u8],
-) -> u8 {
-    let mut forces = [0u8; 4096];
-    let n = arguments::path_at(rt, b"rehearse", given, 3, b"FORCES", &mut forces);
-    if n == 0 {
-        return WRONG;
+    bytes: &'b mut [u8],
+) -> Result<Option<&'b str>, Failure> {
+    if given.count < 4 {
+        return Ok(None);
     }
-    rehearse_on(rt, instrument, script, wav, &forces[..n], true)
+    let path = given.path(program, 3, "FORCES", bytes)?;
+    Ok(Some(path))
 }
 
-fn rehearse_into(rt: &impl System, given: Arguments, instrument: &[u8], script: &[u8]) -> u8 {
-    let mut wav = [0u8; 4096];
-    let n = arguments::path_at(rt, b"rehearse", given, 2, b"OUT.wav", &mut wav);
-    if n == 0 {
-        return WRONG;
-    }
-    if given.count == 4 {
-        return rehearse_with_forces(rt, given, instrument, script, &wav[..n]);
-    }
-    rehearse_on(rt, instrument, script, &wav[..n], b"", false)
-}
-
-fn rehearse_with_script(rt: &impl System, given: Arguments, instrument: &[u8]) -> u8 {
-    let mut script = [0u8; 4096];
-    let n = arguments::path_at(rt, b"rehearse", given, 1, b"SCRIPT", &mut script);
-    if n == 0 {
-        return WRONG;
-    }
-    rehearse_into(rt, given, instrument, &script[..n])
-}
-
-fn rehearse_files(rt: &impl System, given: Arguments) -> u8 {
+fn rehearse_files(program: &Program<'_, impl System>, given: Arguments) -> Result<(), Failure> {
     let mut instrument = [0u8; 4096];
-    let n = arguments::path_at(rt, b"rehearse", given, 0, b"INSTRUMENT", &mut instrument);
-    if n == 0 {
-        return WRONG;
-    }
-    rehearse_with_script(rt, given, &instrument[..n])
+    let instrument = given.path(program, 0, "INSTRUMENT", &mut instrument)?;
+    let mut script = [0u8; 4096];
+    let script = given.path(program, 1, "SCRIPT", &mut script)?;
+    let mut wave = [0u8; 4096];
+    let wave = given.path(program, 2, "OUT.wav", &mut wave)?;
+    let mut forces = [0u8; 4096];
+    let forces = forces_of(program, given, &mut forces)?;
+    rehearse_on(program, instrument, Names::of(script, wave, forces))
 }
 
 // ---- the command line
 
-fn run(rt: &impl System, given: Arguments) -> u8 {
-    if given.count == 0 {
-        return rehearse_embedded(rt);
+fn run(program: &Program<'_, impl System>, given: Arguments) -> Result<(), Failure> {
+    streams::check_open(program)?;
+    match given.count {
+        0 => rehearse_embedded(program),
+        3 | 4 => rehearse_files(program, given),
+        _ => Err(program.explain("[INSTRUMENT SCRIPT OUT.wav [FORCES]]")),
     }
-    if (given.count == 3) | (given.count == 4) {
-        return rehearse_files(rt, given);
-    }
-    message::tell(
-        rt,
-        b"usage: rehearse [INSTRUMENT SCRIPT OUT.wav [FORCES]]\n",
-    );
-    WRONG
 }
 
 fn main(rt: HostRuntime) {
-    let given = arguments::given(&rt);
-    let status = if streams::are_open(&rt, b"rehearse") {
-        run(&rt, given)
-    } else {
-        WRONG
+    let program = Program {
+        rt: &rt,
+        name: "rehearse",
     };
-    arguments::end(given, status);
+    let given = arguments::given(&rt);
+    arguments::end(given, run(&program, given));
 }

@@ -1,158 +1,80 @@
 // The script, and where samples and forces go.
-use file_status::{Stream, status_of_stream};
-use program::input::{Input, Source};
-use program::message::{complain, number_of};
+use program::arguments::Failure;
+use program::input::Input;
 use program::output::{InUse, Output};
-use program::system::System;
-use program::wave::Wave;
+use program::system::{Program, System};
 use program::{input, kind, output, streams};
-use std::io;
-use std::io::Read;
 
-// What the script is read from. `error` is the system's number once a read has failed.
-#[derive(Drop)]
-pub struct Script {
-    pub source: Source,
-    pub error: i32,
+// `-` is standard input, and is called so.
+pub fn is_standard_input(path: &str) -> bool {
+    path == "-"
 }
 
-impl Read for Script {
-    fn read(&mut self, buf: &mut [u8]) -> io::Result<usize> {
-        match self.source.read(buf) {
-            Ok(n) => Ok(n),
-            Err(e) => {
-                self.error = number_of(e);
-                Err(io::Error::from_raw_os_error(self.error))
-            }
+pub fn open_script(program: &Program<'_, impl System>, path: &str) -> Result<Input, Failure> {
+    if !is_standard_input(path) {
+        return input::open(program, path);
+    }
+    streams::check_input_open(program)?;
+    input::standard(program)
+}
+
+// Forces are written where anybody asked for them.
+#[derive(Drop)]
+pub struct Places {
+    pub wave: Output,
+    pub forces: Option<Output>,
+}
+
+// The forces' file beside the samples'.
+fn open_forces(
+    program: &Program<'_, impl System>,
+    path: &str,
+    wave: &Output,
+) -> Result<Output, Failure> {
+    let forces = output::open(program, path)?;
+    if kind::is_same(wave.file, forces.file) {
+        let failure = program.complain(path, "samples and forces may not go into one file");
+        output::withdraw(program.rt, path, forces);
+        return Err(failure);
+    }
+    Ok(forces)
+}
+
+// Where the forces' file cannot be had, the samples' is not touched.
+fn open_both(
+    program: &Program<'_, impl System>,
+    wave_path: &str,
+    path: &str,
+) -> Result<Places, Failure> {
+    let wave = output::open(program, wave_path)?;
+    match open_forces(program, path, &wave) {
+        Ok(forces) => Ok(Places {
+            wave,
+            forces: Some(forces),
+        }),
+        Err(failure) => {
+            output::withdraw(program.rt, wave_path, wave);
+            Err(failure)
         }
     }
 }
 
-pub fn script_of(source: Source) -> Script {
-    Script { source, error: 0 }
-}
-
-// `-` is standard input, and is called so.
-pub fn is_standard_input(path: &[u8]) -> bool {
-    check::same(path, b"-")
-}
-
-// The script, closed where there is none.
-pub fn open_script(rt: &impl System, path: &[u8]) -> Input {
-    if !is_standard_input(path) {
-        return input::open(rt, b"rehearse", path);
-    }
-    if !streams::is_input_open(rt, b"rehearse") {
-        return Input {
-            source: Source::Closed,
-            file: status_of_stream(rt, Stream::Input),
-        };
-    }
-    input::standard(rt, b"rehearse")
-}
-
-// The forces are written where anybody asked for them.
-#[derive(Drop)]
-pub struct Places {
-    pub script: Script,
-    pub wave: Wave,
-    pub forces: Output,
-    pub has_forces: bool,
-    pub are_open: bool,
-}
-
-fn is_free(rt: &impl System, path: &[u8], used: InUse) -> bool {
-    output::is_apart(
-        rt,
-        b"rehearse",
-        path,
-        used,
-        b"\
-            it is the instrument, and an output may not be an input\n\
-            it is the script, and an output may not be an input\n\
-            it is where the answers go, and two outputs may not be one file\n\
-            it is where messages go, and two outputs may not be one file\n",
-    )
-}
-
-// Whether neither output is in use; nothing is opened.
-fn are_free(rt: &impl System, wave: &[u8], forces: &[u8], has_forces: bool, used: InUse) -> bool {
-    if !is_free(rt, wave, used) {
-        return false;
-    }
-    if !has_forces {
-        return true;
-    }
-    is_free(rt, forces, used)
-}
-
-// The samples' file before it is begun.
-fn wave_of(out: Output) -> Wave {
-    Wave {
-        out,
-        rate: 0,
-        samples: 0,
-        error: 0,
-    }
-}
-
-fn closed() -> Places {
-    Places {
-        script: script_of(Source::Closed),
-        wave: wave_of(output::none()),
-        forces: output::none(),
-        has_forces: false,
-        are_open: false,
-    }
-}
-
-fn opened(wave: Output, forces: Output, has_forces: bool) -> Places {
-    Places {
-        script: script_of(Source::Closed),
-        wave: wave_of(wave),
-        forces,
-        has_forces,
-        are_open: true,
-    }
-}
-
-// The forces' file beside the samples'; where it cannot be had, neither is touched.
-fn with_forces(rt: &impl System, wave: Output, wave_path: &[u8], path: &[u8]) -> Places {
-    let forces = output::open(rt, b"rehearse", path);
-    let is_one = kind::is_same(wave.file, forces.file);
-    if is_one {
-        complain(
-            rt,
-            b"rehearse",
-            path,
-            b"samples and forces may not go into one file",
-        );
-    }
-    if is_one | !output::is_open(&forces) {
-        output::withdraw(rt, path, forces);
-        output::withdraw(rt, wave_path, wave);
-        return closed();
-    }
-    opened(wave, forces, true)
-}
-
-// Opens what is written, and empties nothing.
+// Opens what is written, and empties nothing. Nothing is opened where either is in use.
 pub fn open_places(
-    rt: &impl System,
-    wave: &[u8],
-    forces: &[u8],
-    has_forces: bool,
-    used: InUse,
-) -> Places {
-    if !are_free(rt, wave, forces, has_forces, used) {
-        return closed();
+    program: &Program<'_, impl System>,
+    wave: &str,
+    forces: Option<&str>,
+    inputs: &[InUse],
+) -> Result<Places, Failure> {
+    output::check_apart(program, wave, inputs, "the answers go")?;
+    match forces {
+        Some(forces) => {
+            output::check_apart(program, forces, inputs, "the answers go")?;
+            open_both(program, wave, forces)
+        }
+        None => Ok(Places {
+            wave: output::open(program, wave)?,
+            forces: None,
+        }),
     }
-    let samples = output::open(rt, b"rehearse", wave);
-    if !output::is_open(&samples) {
-        return closed();
-    }
-    if has_forces {
-        return with_forces(rt, samples, wave, forces);
-    }
-    opened(samples, output::none(), false)
 }

@@ -7,18 +7,23 @@ ghost use Rattle.std.specs.Prelude.{◌≡◌, ◌≤◌, length, IfOk};
 use little_endian::{bits_of, float_of};
 use std::io;
 use std::io::Read;
-use text::{Number, hexadecimal_of};
+use text::hexadecimal_of;
 
-#[derive(Clone, Copy)]
-pub enum Word {
-    Of(u64),
-    Not,
+// Whether a stored answer is given again.
+#[derive(Clone, Copy, Debug, PartialEq, Eq)]
+pub enum Verdict {
+    Same,
+    Differs,
 }
 
-#[derive(Clone, Copy)]
-pub enum Words {
-    Count(usize),
-    Unreadable,
+impl From<bool> for Verdict {
+    fn from(is_same: bool) -> Verdict {
+        if is_same {
+            Verdict::Same
+        } else {
+            Verdict::Differs
+        }
+    }
 }
 
 // Reads until the buffer is full or the source ends; how many bytes it read. Of a full buffer nobody knows whether the source goes on.
@@ -37,77 +42,39 @@ pub fn read_full<R: Read>(source: &mut R, buffer: &mut [u8]) -> io::Result<usize
 }
 
 // A space and sixteen digits.
-fn read_word(line: &[u8]) -> Word {
-    if line.len() != 17 {
-        return Word::Not;
+fn read_word(line: &[u8]) -> Option<u64> {
+    let digits = line.strip_prefix(b" ".as_slice())?;
+    if digits.len() != 16 {
+        return None;
     }
-    if line[0] != b' ' {
-        return Word::Not;
-    }
-    let number = hexadecimal_of(&line[1..17]);
-    match number {
-        Number::Value(value) => Word::Of(value),
-        _ => Word::Not,
-    }
+    hexadecimal_of(digits).ok()
 }
 
-// All words of what follows a name, into the first places.
-pub fn read_words(text: &[u8], words: &mut [u64]) -> Words {
-    let mut n: usize = 0;
-    let mut at: usize = 0;
-    while at < text.len() {
-        if text.len() - at < 17 {
-            return Words::Unreadable;
-        }
-        if words.len() <= n {
-            return Words::Unreadable;
-        }
-        let Word::Of(value) = read_word(&text[at..at + 17]) else {
-            return Words::Unreadable;
-        };
-        words[n] = value;
-        n += 1;
-        at += 17;
+// All words of what follows a name, in the first places; None where it holds anything else, or more than there are places.
+pub fn read_words<'a>(text: &[u8], words: &'a mut [u64]) -> Option<&'a [u64]> {
+    let count = text.len() / 17;
+    if text.len() % 17 != 0 || words.len() < count {
+        return None;
     }
-    Words::Count(n)
-}
-
-// Whether a line begins with a name.
-pub fn starts(line: &[u8], name: &[u8]) -> bool {
-    let n = name.len();
-    if line.len() < n {
-        return false;
+    for (word, line) in words.iter_mut().zip(text.chunks_exact(17)) {
+        *word = read_word(line)?;
     }
-    check::same(&line[..n], name)
+    Some(&words[..count])
 }
 
-// The place of the first such byte from `at` on, or the end.
-fn find(text: &[u8], at: usize, b: u8) -> usize
-    requires { at ≤ length text.now }
-    ensures { (at ≤ result) × (result ≤ length text.now) }
-{
-    let mut i = at;
-    while i < text.len() {
-        if text[i] == b {
-            return i;
-        }
-        i += 1;
+// A line of `split_inclusive`, without its line feed.
+pub fn without_feed(line: &[u8]) -> &[u8] {
+    line.strip_suffix(b"\n".as_slice()).unwrap_or(line)
+}
+
+// What follows a name and the space behind it, from that space on; None where the line begins otherwise.
+pub fn after_name<'a>(line: &'a [u8], name: &[u8]) -> Option<&'a [u8]> {
+    let rest = line.strip_prefix(name)?;
+    if rest.starts_with(b" ".as_slice()) {
+        Some(rest)
+    } else {
+        None
     }
-    i
-}
-
-// The end of the line that begins at `at`.
-pub fn line_end(text: &[u8], at: usize) -> usize
-    requires { at ≤ length text.now }
-    ensures { (at ≤ result) × (result ≤ length text.now) }
-{
-    find(text, at, b'\n')
-}
-
-// What follows the name.
-pub fn rest(line: &[u8]) -> &[u8] {
-    let space = find(line, 0, b' ');
-    &line[space..]
 }
 
 pub fn alike(r: f64, word: u64) -> bool {
@@ -128,25 +95,17 @@ pub fn same_bits(r: f64, word: u64) -> bool {
 pub fn load(words: &[u64], cells: &mut [f64])
     ensures { length cells.new ≡ length cells.old }
 {
-    let mut i: usize = 0;
-    while i < words.len() && i < cells.len() {
-        cells[i] = float_of(words[i]);
-        i += 1;
+    for (cell, word) in cells.iter_mut().zip(words) {
+        *cell = float_of(*word);
     }
 }
 
 pub fn all_alike(cells: &[f64], words: &[u64]) -> bool {
-    if cells.len() != words.len() {
-        return false;
-    }
-    let mut i: usize = 0;
-    while i < words.len() {
-        if !alike(cells[i], words[i]) {
-            return false;
-        }
-        i += 1;
-    }
-    true
+    cells.len() == words.len()
+        && cells
+            .iter()
+            .zip(words)
+            .all(|(cell, word)| alike(*cell, *word))
 }
 
 // A float's bits, with one pattern for both zeros and one for all NaNs.
@@ -156,9 +115,7 @@ fn bits(x: f64) -> u64 {
 
 // One word for many cells: each turn can be undone, so two lists that differ in one cell have different words.
 pub fn digest(cells: &[f64]) -> u64 {
-    let mut h: u64 = 0;
-    for i in 0..cells.len() {
-        h = std::num::wrapping_add_u64((h << 7) | (h >> 57), bits(cells[i]));
-    }
-    h
+    cells
+        .iter()
+        .fold(0u64, |h, x| h.rotate_left(7).wrapping_add(bits(*x)))
 }

@@ -3,6 +3,7 @@
 #![tactic(auto)]
 
 use instrument::{Instrument, is_valid, part_cells, work_cells};
+use refusal::Refusal;
 use std::env::FillError;
 use std::fs::File;
 use std::io;
@@ -10,14 +11,14 @@ use std::rt::{Env, Files};
 use test_answers::read_full;
 
 // Document 01's words, shortened, for the refusals of a file.
-fn say_refusal(rt: &impl Print, number: u32) -> io::Result<()> {
-    match number {
-        1 => println!(rt; "refused 1: too short, or D out of range"),
-        2 => println!(rt; "refused 2: the pairs do not chain"),
-        3 => println!(rt; "refused 3: a section's length or string count"),
-        4 => println!(rt; "refused 4: a field out of range, or the zero byte"),
-        5 => println!(rt; "refused 5: more than 32 strings"),
-        6 => println!(rt; "refused 6: a key number comes twice"),
+fn say_refusal(rt: &impl Print, refusal: Refusal) -> io::Result<()> {
+    match refusal {
+        Refusal::SectionCount => println!(rt; "refused 1: too short, or D out of range"),
+        Refusal::Chain => println!(rt; "refused 2: the pairs do not chain"),
+        Refusal::SectionLength => println!(rt; "refused 3: a section's length or string count"),
+        Refusal::Field => println!(rt; "refused 4: a field out of range, or the zero byte"),
+        Refusal::ManyStrings => println!(rt; "refused 5: more than 32 strings"),
+        Refusal::KeyTwice => println!(rt; "refused 6: a key number comes twice"),
         _ => println!(rt; "refused"),
     }
 }
@@ -42,17 +43,9 @@ const ROOM: usize = 2201;
 
 const BEFORE: u8 = 0xa5;
 
-// The first byte that is not the file's or, past the file, not as before; the number of bytes where each is.
-fn first_wrong(bytes: &[u8], file: &[u8]) -> usize {
-    let mut k = 0usize;
-    while k < bytes.len() {
-        let wanted = if k < file.len() { file[k] } else { BEFORE };
-        if bytes[k] != wanted {
-            return k;
-        }
-        k += 1;
-    }
-    k
+// The first byte that is not the file's or, past the file, not as before.
+fn first_wrong(bytes: &[u8], file: &[u8]) -> Option<usize> {
+    bytes.iter().enumerate().position(|(k, byte)| *byte != file.get(k).copied().unwrap_or(BEFORE))
 }
 
 // Writes a record into the first n bytes; says what the writer answers, then `right` where all bytes are as they should be.
@@ -64,22 +57,16 @@ fn say_writing(
     file: &[u8],
     right: &str,
 ) -> io::Result<()> {
-    if bytes.len() < n {
+    let Some(lent) = bytes.get_mut(..n) else {
         return Ok(());
+    };
+    match instrument_writer::write(i, lent) {
+        Ok(length) => print!(rt; "written {length}")?,
+        Err(refusal) => print!(rt; "refused {}", refusal.number())?,
     }
-    let answer = instrument_writer::write(i, &mut bytes[..n]);
-    let length = answer.length;
-    let refusal = answer.refusal;
-    if refusal == 0 {
-        print!(rt; "written {length}")?;
-    } else {
-        print!(rt; "refused {refusal}")?;
-    }
-    let wrong = first_wrong(bytes, file);
-    if wrong < bytes.len() {
-        println!(rt; ", wrong from byte {wrong} on")
-    } else {
-        println!(rt; ", {right}")
+    match first_wrong(bytes, file) {
+        Some(wrong) => println!(rt; ", wrong from byte {wrong} on"),
+        None => println!(rt; ", {right}"),
     }
 }
 
@@ -121,14 +108,13 @@ fn blank() -> [u8; 65536] {
 
 // What a file's bytes are read as.
 fn say_file(rt: &impl Print, path: &str, file: &[u8]) -> io::Result<()> {
-    let answer = instrument_file::read(file);
-    let i = answer.instrument;
-    if answer.refusal == 0 {
-        say_instrument(rt, i)?;
-        print!(rt; ", ")?;
-        say_again(rt, path, i, file)
-    } else {
-        say_refusal(rt, answer.refusal)
+    match instrument_file::read(file) {
+        Ok(i) => {
+            say_instrument(rt, i)?;
+            print!(rt; ", ")?;
+            say_again(rt, path, i, file)
+        }
+        Err(refusal) => say_refusal(rt, refusal),
     }
 }
 

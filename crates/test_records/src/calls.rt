@@ -1,10 +1,50 @@
 // Every call on a record: the number that it gives, and whether it changed a cell though it was refused.
 use instrument::Instrument;
+use refusal::Refusal;
 use score::{Event, TimedEvent};
-use session::Answer;
 use session_record::Session;
 use std::io;
 use test_answers::digest;
+
+#[derive(Clone, Copy)]
+enum Call {
+    Energies,
+    Play,
+    Cue,
+    Go,
+    Insert,
+    Remove,
+}
+
+const CALLS: [Call; 6] = [
+    Call::Energies,
+    Call::Play,
+    Call::Cue,
+    Call::Go,
+    Call::Insert,
+    Call::Remove,
+];
+
+impl Call {
+    fn name(self) -> &'static str {
+        match self {
+            Call::Energies => "energies",
+            Call::Play => "play",
+            Call::Cue => "cue",
+            Call::Go => "go",
+            Call::Insert => "insert",
+            Call::Remove => "remove",
+        }
+    }
+}
+
+// The refusal's number, 0 for none.
+fn number_of<T: Drop>(answer: Result<T, Refusal>) -> u32 {
+    match answer {
+        Ok(_) => 0,
+        Err(refusal) => refusal.number(),
+    }
+}
 
 fn say_changed(rt: &impl Print, before: u64, after: u64, what: &str) -> io::Result<()> {
     if before != after {
@@ -13,15 +53,8 @@ fn say_changed(rt: &impl Print, before: u64, after: u64, what: &str) -> io::Resu
     Ok(())
 }
 
-fn number_of(answer: Answer) -> u64 {
-    match answer {
-        Answer::Refused(n) => n,
-        _ => 0,
-    }
-}
-
 // A refused call leaves every cell of output and trace too.
-fn say_played(rt: &impl Print, number: u64, out: &[f64; 4], trace: &[f64; 4]) -> io::Result<()> {
+fn say_played(rt: &impl Print, number: u32, out: &[f64; 4], trace: &[f64; 4]) -> io::Result<()> {
     if number == 0 {
         return Ok(());
     }
@@ -36,77 +69,36 @@ fn play(
     session: Session,
     work: &mut [f64],
     scratch: &mut [f64],
-) -> io::Result<u64> {
+) -> io::Result<u32> {
     let mut out = [0.5; 4];
     let mut trace = [0.5; 4];
-    let done = session::play(instrument, session, work, scratch, &mut out, &mut trace);
-    let answer = done.answer;
-    let number = number_of(answer);
+    let outcome = session::play(instrument, session, work, scratch, &mut out, &mut trace);
+    let number = number_of(outcome.answer);
     say_played(rt, number, &out, &trace)?;
     Ok(number)
 }
 
-fn cue(instrument: Instrument, session: Session, work: &mut [f64]) -> u64 {
-    let done = session::cue(instrument, session, work);
-    let answer = done.answer;
-    number_of(answer)
-}
-
-fn go(instrument: Instrument, session: Session, work: &mut [f64], scratch: &mut [f64]) -> u64 {
-    let done = session::go(instrument, session, work, scratch, 3);
-    let answer = done.answer;
-    number_of(answer)
-}
-
-fn insert(instrument: Instrument, session: Session, work: &mut [f64]) -> u64 {
-    let timed = TimedEvent {
-        position: 2,
-        event: Event::Pedal(true),
-    };
-    let done = session::insert(instrument, session, work, timed);
-    let answer = done.answer;
-    number_of(answer)
-}
-
-fn remove(instrument: Instrument, session: Session, work: &mut [f64]) -> u64 {
-    let done = session::remove(instrument, session, work, 0);
-    let answer = done.answer;
-    number_of(answer)
-}
-
-fn energies(instrument: Instrument, session: Session, work: &[f64]) -> u64 {
-    let answer = energies::key_energies(instrument, session, work);
-    answer.refusal
-}
-
-// The calls by their places in `names`.
+// What it gives on the record, with the memory that is lent.
 fn call(
     rt: &impl Print,
-    kind: u64,
+    call: Call,
     instrument: Instrument,
     session: Session,
     work: &mut [f64],
     scratch: &mut [f64],
-) -> io::Result<u64> {
-    match kind {
-        0 => Ok(energies(instrument, session, work)),
-        1 => play(rt, instrument, session, work, scratch),
-        2 => Ok(cue(instrument, session, work)),
-        3 => Ok(go(instrument, session, work, scratch)),
-        4 => Ok(insert(instrument, session, work)),
-        _ => Ok(remove(instrument, session, work)),
-    }
-}
-
-fn name_of(kind: u64) -> &'static str {
-    match kind {
-        0 => "energies",
-        1 => "play",
-        2 => "cue",
-        3 => "go",
-        4 => "insert",
-        _ => "remove",
-    }
+) -> io::Result<u32> {
+    let pedal = TimedEvent {
+        position: 2,
+        event: Event::Pedal(true),
+    };
+    Ok(match call {
+        Call::Energies => number_of(energies::key_energies(instrument, session, work)),
+        Call::Play => play(rt, instrument, session, work, scratch)?,
+        Call::Cue => number_of(session::cue(instrument, session, work).answer),
+        Call::Go => number_of(session::go(instrument, session, work, scratch, 3).answer),
+        Call::Insert => number_of(session::insert(instrument, session, work, pedal).answer),
+        Call::Remove => number_of(session::remove(instrument, session, work, 0).answer),
+    })
 }
 
 // The memory that a call is lent, by its digests.
@@ -124,27 +116,13 @@ fn memory_of(work: &[f64], scratch: &[f64]) -> Memory {
 }
 
 // A refused call leaves every cell.
-fn say_number(rt: &impl Print, number: u64, before: Memory, after: Memory) -> io::Result<()> {
+fn say_number(rt: &impl Print, number: u32, before: Memory, after: Memory) -> io::Result<()> {
     print!(rt; "{number}")?;
     if number == 0 {
         return Ok(());
     }
     say_changed(rt, before.work, after.work, " (changed)")?;
     say_changed(rt, before.scratch, after.scratch, " (scratch changed)")
-}
-
-fn try_call(
-    rt: &impl Print,
-    kind: u64,
-    instrument: Instrument,
-    session: Session,
-    work: &mut [f64],
-    scratch: &mut [f64],
-) -> io::Result<()> {
-    print!(rt; " {} ", name_of(kind))?;
-    let before = memory_of(work, scratch);
-    let number = call(rt, kind, instrument, session, work, scratch)?;
-    say_number(rt, number, before, memory_of(work, scratch))
 }
 
 // Every call gets the same session, and the memory that the others left.
@@ -155,8 +133,11 @@ fn try_in(
     work: &mut [f64],
     scratch: &mut [f64],
 ) -> io::Result<()> {
-    for kind in 0u64..6u64 {
-        try_call(rt, kind, instrument, session, work, scratch)?;
+    for each in CALLS {
+        print!(rt; " {} ", each.name())?;
+        let before = memory_of(work, scratch);
+        let number = call(rt, each, instrument, session, work, scratch)?;
+        say_number(rt, number, before, memory_of(work, scratch))?;
     }
     Ok(())
 }
@@ -169,15 +150,6 @@ pub fn try_calls(
 ) -> io::Result<()> {
     let mut work = [0.25; 25310];
     let mut scratch = [0.25; 22];
-    if lent < 22 {
-        try_in(
-            rt,
-            instrument,
-            session,
-            &mut work,
-            &mut scratch[..lent as usize],
-        )
-    } else {
-        try_in(rt, instrument, session, &mut work, &mut scratch)
-    }
+    let s = lent.min(22) as usize;
+    try_in(rt, instrument, session, &mut work, &mut scratch[..s])
 }

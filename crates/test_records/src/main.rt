@@ -7,69 +7,50 @@ mod calls;
 mod record;
 mod row;
 
-use little_endian::part;
 use record::WORDS;
+use refusal::Refusal;
 use std::io;
 use std::io::Write;
-use std::num::wrapping_add_usize;
+use test_answers::without_feed;
 
-// A row's name ends at its first colon.
-fn name_length(row: &[u8]) -> usize {
-    let mut n = 0usize;
-    while n < row.len() {
-        if row[n] == b':' {
-            return n;
-        }
-        n += 1;
-    }
-    n
+// The instrument inside is a file that is accepted: a refusal of it ends the program.
+fn unexpected(_: Refusal) -> io::Error {
+    io::Error::from(io::ErrorKind::InvalidData)
 }
 
 fn try_words(rt: &impl Print, words: &[u64; WORDS]) -> io::Result<()> {
-    let read = session_words::session_at(record::session_in(words));
-    if read.is_session {
-        let session = read.session;
-        calls::try_calls(
-            rt,
-            record::instrument_of(words),
-            session,
-            record::lent_of(words),
-        )
-    } else {
-        print!(rt; " not a session's words")
+    match session_words::session_at(record::session_in(words)) {
+        Some(session) => {
+            let instrument = record::instrument_of(words).map_err(unexpected)?;
+            calls::try_calls(rt, instrument, session, record::lent_of(words))
+        }
+        None => print!(rt; " not a session's words"),
     }
 }
 
+// A row's name ends at its first colon.
 fn try_row(rt: &impl Print, row: &[u8]) -> io::Result<()> {
-    let n = name_length(row);
-    io::writer(rt).write_all(part(row, 0, n))?;
+    let (name, changes) = match row.iter().position(|b| *b == b':') {
+        Some(n) => (&row[..n], &row[n + 1..]),
+        None => (row, &row[..0]),
+    };
+    io::writer(rt).write_all(name)?;
     print!(rt; ":")?;
-    let mut words = record::right_words();
-    if row::change(&mut words, part(row, wrapping_add_usize(n, 1), row.len())) {
-        try_words(rt, &words)?;
-    } else {
-        print!(rt; " unreadable")?;
+    let mut words = record::right_words().map_err(unexpected)?;
+    match row::change(&mut words, changes) {
+        Some(()) => try_words(rt, &words)?,
+        None => print!(rt; " unreadable")?,
     }
     println!(rt;)
 }
 
 // Empty lines and those that begin with # are no rows.
-fn try_line(rt: &impl Print, line: &[u8]) -> io::Result<()> {
-    if line.len() == 0 {
-        return Ok(());
-    }
-    if line[0] == b'#' {
-        return Ok(());
-    }
-    try_row(rt, line)
-}
-
 fn try_lines(rt: &impl Print, text: &[u8]) -> io::Result<()> {
-    let mut at: usize = 0;
-    while at < text.len() {
-        let end = test_answers::line_end(text, at);
-        try_line(rt, &text[at..end])?;
-        at = end + 1;
+    for part in text.split_inclusive(|b| *b == b'\n') {
+        let line = without_feed(part);
+        if !line.is_empty() && !line.starts_with(b"#".as_slice()) {
+            try_row(rt, line)?;
+        }
     }
     Ok(())
 }

@@ -1,6 +1,8 @@
 // The record that a row's words are: a session, then five numbers of the instrument and how many cells of scratch are
 // lent. The instrument is the one that `rehearse` has inside.
 use instrument::Instrument;
+use little_endian::float_of;
+use refusal::Refusal;
 use session_record::Session;
 
 // The session's words, as the crate session_words has them.
@@ -21,29 +23,19 @@ const LENT: usize = LAST_KEY + 1;
 
 pub const WORDS: usize = LENT + 1;
 
-fn embedded_instrument() -> Instrument {
-    let mut file = [0u8; 4096];
-    let n = embedded::put_instrument(&mut file);
-    let answer = instrument_file::read(little_endian::part(&file, 0, n));
-    answer.instrument
-}
-
-pub fn instrument_of(words: &[u64; WORDS]) -> Instrument {
-    let mut i = embedded_instrument();
+// The instrument that `rehearse` has inside, with the numbers of the words; the program's own file is accepted.
+pub fn instrument_of(words: &[u64; WORDS]) -> Result<Instrument, Refusal> {
+    let mut i = instrument_file::read(embedded::instrument())?;
     i.string_count = words[STRINGS] as usize;
     i.key_count = words[KEYS] as usize;
-    i.common.fs = little_endian::float_of(words[RATE]);
+    i.common.fs = float_of(words[RATE]);
     i.common.hammer.exponent = (words[EXPONENT] % 0x1_0000_0000) as u32;
     i.keys[15].key = (words[LAST_KEY] % 0x100) as u8;
-    i
+    Ok(i)
 }
 
-pub fn session_in(words: &[u64]) -> &[u64] {
-    if SESSION < words.len() {
-        &words[..SESSION]
-    } else {
-        words
-    }
+pub fn session_in(words: &[u64; WORDS]) -> &[u64] {
+    &words[..SESSION]
 }
 
 pub fn lent_of(words: &[u64; WORDS]) -> u64 {
@@ -51,23 +43,23 @@ pub fn lent_of(words: &[u64; WORDS]) -> u64 {
 }
 
 // A session at 10 that keeps nothing.
-fn right_session() -> Session {
-    let i = embedded_instrument();
+fn right_session() -> Result<Session, Refusal> {
+    let i = instrument_file::read(embedded::instrument())?;
     let mut work = [0.0; 25310];
     let mut scratch = [0.25; 22];
     let opened = session::open(i, &mut work);
     let there = session::go(i, opened.session, &mut work, &mut scratch, 10);
-    there.session
+    Ok(there.session)
 }
 
 // The words of a right record: that session, and the instrument as it is.
-pub fn right_words() -> [u64; WORDS] {
+pub fn right_words() -> Result<[u64; WORDS], Refusal> {
     let mut words = [0u64; WORDS];
-    session_words::put_session(&mut words[..SESSION], right_session());
+    session_words::put_session(&mut words[..SESSION], right_session()?);
     words[STRINGS] = 22;
     words[KEYS] = 8;
     words[RATE] = 0x40e5_8880_0000_0000;
     words[EXPONENT] = 5;
     words[LENT] = 22;
-    words
+    Ok(words)
 }

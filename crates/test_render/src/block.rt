@@ -7,8 +7,7 @@ use crate::state::{between, same_state};
 use instrument::Instrument;
 use render::Run;
 use score::{Piano, Score};
-use std::num::wrapping_add_usize;
-use test_answers::{all_alike, digest};
+use test_answers::{Verdict, all_alike, digest};
 
 // The most samples of a block.
 const LONGEST: usize = 4096;
@@ -25,20 +24,13 @@ const HEAD: usize = 44;
 // Far past every stored render: where t and a length are at most this, their sum fits into 64 bits.
 const LAST: u64 = 0x7fff_ffff_ffff_ffff;
 
-// A render in progress, at position t.
+// A render in progress, at position t; of a file that is refused there is no instrument.
 #[derive(Clone, Copy)]
 pub struct Render {
-    pub instrument: Instrument,
+    pub instrument: Option<Instrument>,
     pub score: Score,
     pub piano: Piano,
     pub t: u64,
-}
-
-#[derive(Clone, Copy)]
-pub enum Verdict {
-    Same,
-    Differs,
-    Unreadable,
 }
 
 // A block's verdict, and the piano after it.
@@ -67,16 +59,22 @@ fn play(
     render: Render,
     m: u64,
 ) -> Run {
-    let instrument = render.instrument;
-    let score = render.score;
-    let piano = render.piano;
-    let t = render.t;
+    let Render {
+        instrument,
+        score,
+        piano,
+        t,
+    } = render;
+    let nothing = Run {
+        piano,
+        done: 0,
+        pushed: 0,
+    };
+    let Some(instrument) = instrument else {
+        return nothing;
+    };
     if !is_playable(instrument, score.count, piano, t, m) {
-        return Run {
-            piano,
-            done: 0,
-            pushed: 0,
-        };
+        return nothing;
     }
     let mut scratch = [0.0 / 0.0; 32];
     let asked = session_record::scratch_cells(instrument);
@@ -86,79 +84,59 @@ fn play(
 
 // At most the first n cells.
 fn first(cells: &[f64], n: usize) -> &[f64] {
-    if n < cells.len() { &cells[..n] } else { cells }
+    &cells[..n.min(cells.len())]
 }
 
 // Samples and forces one by one, or by a digest of each, from word HEAD on.
 fn same_sound(out: &[f64], forces: &[f64], words: &[u64; WORDS], n: usize, digested: bool) -> bool {
     if digested {
-        return (n == HEAD + 2) & (digest(out) == words[HEAD]) & (digest(forces) == words[HEAD + 1]);
+        return n == HEAD + 2 && digest(out) == words[HEAD] && digest(forces) == words[HEAD + 1];
     }
-    let middle = wrapping_add_usize(HEAD, out.len());
-    all_alike(out, between(words, HEAD, middle)) & all_alike(forces, between(words, middle, n))
+    let middle = HEAD.wrapping_add(out.len());
+    all_alike(out, between(words, HEAD, middle)) && all_alike(forces, between(words, middle, n))
 }
 
 // What a run of m samples left, held to the words of the block.
 fn same_block(
-    run: Run,
+    run: &Run,
     out: &[f64; LONGEST],
     trace: &[f64; LONGEST],
     words: &[u64; WORDS],
     n: usize,
     digested: bool,
 ) -> bool {
-    let piano = run.piano;
     let samples = first(out, words[0] as usize);
     let forces = first(trace, run.pushed);
-    (words[1] == run.pushed as u64)
-        & same_state(piano, words)
-        & same_sound(samples, forces, words, n, digested)
+    words[1] == run.pushed as u64
+        && same_state(&run.piano, words)
+        && same_sound(samples, forces, words, n, digested)
 }
 
-fn same_cells(instrument: Instrument, cells: &[f64; CELLS], word: u64) -> bool {
-    let w = instrument::part_cells(instrument);
-    digest(first(cells, w)) == word
+fn same_cells(instrument: Option<Instrument>, cells: &[f64; CELLS], word: u64) -> bool {
+    digest(first(cells, instrument.map_or(0, instrument::part_cells))) == word
 }
 
-fn unreadable(piano: Piano) -> Judged {
-    Judged {
-        verdict: Verdict::Unreadable,
-        piano,
-        samples: 0,
-        forces: 0,
-    }
-}
-
-fn judgement(run: Run, same: bool, samples: u64) -> Judged {
-    let piano = run.piano;
-    Judged {
-        verdict: if same {
-            Verdict::Same
-        } else {
-            Verdict::Differs
-        },
-        piano,
-        samples,
-        forces: run.pushed as u64,
-    }
-}
-
-// The block that the first n words tell of, in buffers of other content than silence, so that a cell not written is seen.
+// The block that the first n words tell of, in buffers of other content than silence, so that a cell not written is seen. None where they are no block.
 pub fn judge(
     cells: &mut [f64; CELLS],
     render: Render,
     words: &[u64; WORDS],
     n: usize,
     digested: bool,
-) -> Judged {
+) -> Option<Judged> {
     let m = words[0];
-    if (n < HEAD) | ((LONGEST as u64) < m) {
-        return unreadable(render.piano);
+    if n < HEAD || (LONGEST as u64) < m {
+        return None;
     }
     let mut out = [4242.0; LONGEST];
     let mut trace = [4242.0; LONGEST];
     let run = play(cells, &mut out, &mut trace, render, m);
-    let same = same_block(run, &out, &trace, words, n, digested)
-        & same_cells(render.instrument, cells, words[43]);
-    judgement(run, same, m)
+    let is_same = same_block(&run, &out, &trace, words, n, digested)
+        && same_cells(render.instrument, cells, words[43]);
+    Some(Judged {
+        verdict: Verdict::from(is_same),
+        piano: run.piano,
+        samples: m,
+        forces: run.pushed as u64,
+    })
 }

@@ -5,56 +5,46 @@
 mod block;
 mod state;
 
-use block::{CELLS, Render, Verdict, WORDS};
+use block::{CELLS, Render, WORDS};
 use little_endian::{float_of, part, put_u64};
 use score::{Event, Score, TimedEvent};
 use std::io;
-use std::num::{wrapping_add_u64, wrapping_add_usize};
-use test_answers::{Words, rest, starts};
+use test_answers::{Verdict, after_name, read_words, without_feed};
 
-// What the tally counts, by its place.
-const RENDERS: usize = 0;
+#[derive(Clone, Copy)]
+struct Tally {
+    renders: u64,
+    blocks: u64,
+    samples: u64,
+    forces: u64,
+    differing: u64,
+    unreadable: u64,
+}
 
-const BLOCKS: usize = 1;
-
-const SAMPLES: usize = 2;
-
-const FORCES: usize = 3;
-
-const DIFFERING: usize = 4;
-
-const UNREADABLE: usize = 5;
-
-fn add(tally: &mut [u64; 6], at: usize, n: u64) {
-    if at < 6 {
-        tally[at] = wrapping_add_u64(tally[at], n);
-    }
+fn add(count: &mut u64, n: u64) {
+    *count = count.wrapping_add(n);
 }
 
 // The bytes of a file that stands in words, eight to a word, after the word of its length.
 fn unpack_file(words: &[u64; WORDS], file: &mut [u8; 2304]) {
-    for i in 1usize..WORDS {
-        put_u64(file, 8 * i - 8, words[i]);
+    for (i, word) in words[1..].iter().enumerate() {
+        put_u64(file, i.wrapping_mul(8), *word);
     }
 }
 
-// Silence on the instrument of a file's first n bytes, with no events.
-fn silence(file: &[u8; 2304], n: usize) -> Render {
-    let answer = instrument_file::read(part(file, 0, n));
-    let instrument = answer.instrument;
+// Silence on the instrument of a file's bytes, with no events.
+fn silence(file: &[u8]) -> Render {
     let none = TimedEvent {
         position: 0,
         event: Event::Pedal(false),
     };
-    let score = Score {
-        events: [none; 64],
-        count: 0,
-    };
-    let piano = render::silent_piano();
     Render {
-        instrument,
-        score,
-        piano,
+        instrument: instrument_file::read(file).ok(),
+        score: Score {
+            events: [none; 64],
+            count: 0,
+        },
+        piano: render::silent_piano(),
         t: 0,
     }
 }
@@ -64,162 +54,133 @@ fn start(words: &[u64; WORDS], cells: &mut [f64; CELLS]) -> Render {
     let mut file = [0u8; 2304];
     unpack_file(words, &mut file);
     render::silence_part(cells);
-    silence(&file, words[0] as usize)
+    silence(part(&file, 0, words[0] as usize))
 }
 
-// Kinds: 0 a strike, 1 a release, 2 the pedal, whose key is 1 for down, and any other a hand damp.
+// Kinds as the file numbers them: 0 a strike, 1 a release, 2 the pedal, whose key is 1 for down, and any other a hand damp.
 fn event_of(kind: u64, key: u64, velocity: f64) -> Event {
     let number = (key % 256) as u8;
-    if kind == 0 {
-        return Event::NoteOn {
+    match kind {
+        0 => Event::NoteOn {
             key: number,
             velocity,
-        };
+        },
+        1 => Event::NoteOff { key: number },
+        2 => Event::Pedal(key == 1),
+        _ => Event::HandDamp { key: number },
     }
-    if kind == 1 {
-        return Event::NoteOff { key: number };
-    }
-    if kind == 2 {
-        return Event::Pedal(key == 1);
-    }
-    Event::HandDamp { key: number }
 }
 
 // One event more: position, kind, key and velocity. A score of more than 64 is not rendered.
-fn with_event(words: &[u64; WORDS], render: Render) -> Render {
-    let mut score = render.score;
-    let n = score.count;
+fn add_event(words: &[u64; WORDS], render: &mut Render) {
+    let n = render.score.count;
     if n < 64 {
-        let event = event_of(words[1], words[2], float_of(words[3]));
-        score.events[n] = TimedEvent {
+        render.score.events[n] = TimedEvent {
             position: words[0],
-            event,
+            event: event_of(words[1], words[2], float_of(words[3])),
         };
     }
-    score.count = wrapping_add_usize(n, 1);
-    let mut next = render;
-    next.score = score;
-    next
+    render.score.count = n.wrapping_add(1);
 }
 
-fn count_block(tally: &mut [u64; 6], verdict: Verdict) {
-    match verdict {
-        Verdict::Unreadable => {
-            add(tally, UNREADABLE, 1);
-        }
-        Verdict::Same => {
-            add(tally, BLOCKS, 1);
-        }
-        Verdict::Differs => {
-            add(tally, BLOCKS, 1);
-            add(tally, DIFFERING, 1);
-        }
-    }
-}
-
-fn with_block(
-    tally: &mut [u64; 6],
+// The block that the first n words tell of.
+fn replay_block(
+    tally: &mut Tally,
     words: &[u64; WORDS],
     n: usize,
     cells: &mut [f64; CELLS],
-    render: Render,
+    render: &mut Render,
     digested: bool,
-) -> Render {
-    let judged = block::judge(cells, render, words, n, digested);
-    let verdict = judged.verdict;
-    count_block(tally, verdict);
-    add(tally, SAMPLES, judged.samples);
-    add(tally, FORCES, judged.forces);
-    let piano = judged.piano;
-    let mut next = render;
-    next.piano = piano;
-    next.t = wrapping_add_u64(render.t, judged.samples);
-    next
+) {
+    let Some(judged) = block::judge(cells, *render, words, n, digested) else {
+        add(&mut tally.unreadable, 1);
+        return;
+    };
+    add(&mut tally.blocks, 1);
+    if judged.verdict == Verdict::Differs {
+        add(&mut tally.differing, 1);
+    }
+    add(&mut tally.samples, judged.samples);
+    add(&mut tally.forces, judged.forces);
+    render.piano = judged.piano;
+    render.t = render.t.wrapping_add(judged.samples);
 }
 
-// What a line of n words tells of.
+// What a line tells of.
 #[derive(Clone, Copy)]
 enum Kind {
     Instrument,
     Event,
     Block,
     Run,
-    Unreadable,
 }
 
-fn kind_of(line: &[u8], n: usize) -> Kind {
-    if n == 0 {
-        return Kind::Unreadable;
+// A line's kind, and what follows its name; None where it begins with no name.
+fn kind_of(line: &[u8]) -> Option<(Kind, &[u8])> {
+    if let Some(rest) = after_name(line, b"instrument") {
+        return Some((Kind::Instrument, rest));
     }
-    if starts(line, b"instrument ") {
-        return Kind::Instrument;
+    if let Some(rest) = after_name(line, b"event") {
+        return Some((Kind::Event, rest));
     }
-    if (n == 4) & starts(line, b"event ") {
-        return Kind::Event;
+    if let Some(rest) = after_name(line, b"block") {
+        return Some((Kind::Block, rest));
     }
-    if starts(line, b"block ") {
-        return Kind::Block;
-    }
-    if starts(line, b"run ") {
-        return Kind::Run;
-    }
-    Kind::Unreadable
+    let rest = after_name(line, b"run")?;
+    Some((Kind::Run, rest))
 }
 
-// The words of a line, into the first places; none where it cannot be read.
-fn read_line(line: &[u8], words: &mut [u64; WORDS]) -> usize {
-    match test_answers::read_words(rest(line), words) {
-        Words::Count(n) => n,
-        Words::Unreadable => 0,
+// The kind of a line and how many words it has, which are put into the first places; None where it cannot be read.
+fn read_line(line: &[u8], words: &mut [u64; WORDS]) -> Option<(Kind, usize)> {
+    let (kind, rest) = kind_of(line)?;
+    let n = read_words(rest, words)?.len();
+    match kind {
+        _ if n == 0 => None,
+        Kind::Event if n != 4 => None,
+        _ => Some((kind, n)),
     }
 }
 
-fn replay_line(
-    tally: &mut [u64; 6],
-    line: &[u8],
-    cells: &mut [f64; CELLS],
-    render: Render,
-) -> Render {
+fn replay_line(tally: &mut Tally, line: &[u8], cells: &mut [f64; CELLS], render: &mut Render) {
     let mut words = [0u64; WORDS];
-    let n = read_line(line, &mut words);
-    match kind_of(line, n) {
-        Kind::Instrument => {
-            add(tally, RENDERS, 1);
-            start(&words, cells)
+    match read_line(line, &mut words) {
+        Some((Kind::Instrument, _)) => {
+            add(&mut tally.renders, 1);
+            *render = start(&words, cells);
         }
-        Kind::Event => with_event(&words, render),
-        Kind::Block => with_block(tally, &words, n, cells, render, false),
-        Kind::Run => with_block(tally, &words, n, cells, render, true),
-        Kind::Unreadable => {
-            add(tally, UNREADABLE, 1);
-            render
-        }
+        Some((Kind::Event, _)) => add_event(&words, render),
+        Some((Kind::Block, n)) => replay_block(tally, &words, n, cells, render, false),
+        Some((Kind::Run, n)) => replay_block(tally, &words, n, cells, render, true),
+        None => add(&mut tally.unreadable, 1),
     }
 }
 
-fn replay_lines(tally: &mut [u64; 6], text: &[u8], cells: &mut [f64; CELLS]) {
-    let mut render = silence(&[0u8; 2304], 0);
-    let mut at: usize = 0;
-    while at < text.len() {
-        let end = test_answers::line_end(text, at);
-        let next = replay_line(tally, &text[at..end], cells, render);
-        render = next;
-        at = end + 1;
+fn replay_lines(tally: &mut Tally, text: &[u8], cells: &mut [f64; CELLS]) {
+    let mut render = silence(b"");
+    for line in text.split_inclusive(|b| *b == b'\n') {
+        replay_line(tally, without_feed(line), cells, &mut render);
     }
 }
 
 // The tally, a name to each count.
-fn report(rt: &impl Print, tally: &[u64; 6]) -> io::Result<()> {
-    println!(rt; "{} renders", tally[RENDERS])?;
-    println!(rt; "{} blocks with their states", tally[BLOCKS])?;
-    println!(rt; "{} samples", tally[SAMPLES])?;
-    println!(rt; "{} forces", tally[FORCES])?;
-    println!(rt; "{} blocks differ", tally[DIFFERING])?;
-    println!(rt; "{} lines unreadable", tally[UNREADABLE])
+fn report(rt: &impl Print, tally: &Tally) -> io::Result<()> {
+    println!(rt; "{} renders", tally.renders)?;
+    println!(rt; "{} blocks with their states", tally.blocks)?;
+    println!(rt; "{} samples", tally.samples)?;
+    println!(rt; "{} forces", tally.forces)?;
+    println!(rt; "{} blocks differ", tally.differing)?;
+    println!(rt; "{} lines unreadable", tally.unreadable)
 }
 
 fn replay(rt: &impl Print, text: &[u8]) -> io::Result<()> {
-    let mut tally = [0u64; 6];
+    let mut tally = Tally {
+        renders: 0,
+        blocks: 0,
+        samples: 0,
+        forces: 0,
+        differing: 0,
+        unreadable: 0,
+    };
     let mut cells = [0.0; CELLS];
     replay_lines(&mut tally, text, &mut cells);
     report(rt, &tally)

@@ -3,9 +3,7 @@
 
 pub mod lines;
 mod number;
-mod stored;
 mod word;
 
 pub use number::{Bits, NumberError, hexadecimal_of, number_of, real_of};
-pub use stored::{put, put_counted, put_number, put_refusal};
 pub use word::{Words, word_at, words_of};

@@ -1,10 +1,9 @@
 // The lines of a file, of standard input or of any other source, through a buffer of N bytes.
 ghost use Rattle.std.specs.Prelude.{◌+◌, ◌≤◌, IfSome};
 
-use std::io;
 use std::io::Read;
-use std::mem;
 use std::ops::Range;
+use std::{io, mem};
 
 // Why a line cannot be given: the buffer does not hold it, and it was dropped up to its end; or a read failed, or was interrupted by a signal.
 // The next call goes on behind the line, or reads again.
@@ -140,8 +139,7 @@ impl<const N: usize> Reader<N> {
             if self.is_ended {
                 break;
             }
-            self.refill(source)
-                .map_err(|e| LineError::Failed(e))?;
+            self.refill(source).map_err(|e| LineError::Failed(e))?;
         }
         self.last()
     }
@@ -153,5 +151,3 @@ impl<const N: usize> Reader<N> {
         Ok(line.and_then(|place| bytes.get(place)))
     }
 }
-
-pub use crate::stored::row;

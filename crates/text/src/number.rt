@@ -1,8 +1,7 @@
 // Numbers as words have them, and the bits of floats as text has them.
 use little_endian::{bits_of, float_of};
-use std::fmt;
 use std::num::{IntErrorKind, nearest_u64_to_f64};
-use std::str;
+use std::{fmt, str};
 
 // Why a word is no number of up to 64 bits: it is none at all, or its digits are too many.
 #[derive(Clone, Copy, Debug, PartialEq, Eq)]
@@ -30,9 +29,7 @@ pub fn hexadecimal_of(word: &[u8]) -> Result<u64, NumberError> {
     }
     let mut n = 0u64;
     for b in word {
-        let digit = char::from(*b)
-            .to_digit(16)
-            .ok_or(NumberError::NotANumber)?;
+        let digit = char::from(*b).to_digit(16).ok_or(NumberError::NotANumber)?;
         n = (n << 4) | u64::from(digit);
     }
     Ok(n)

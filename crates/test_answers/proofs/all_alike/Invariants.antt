@@ -1,6 +1,0 @@
--- Ending: each turn leaves fewer words.
-use Rattle.std.proofs.Common.{length, ◌-◌}
-use Rattle.test_answers.proofs.all_alike.Given as goal
-
-abbrev pub decreases-loop-i : goal.decreases-loop-i
-decreases-loop-i l = length l.words - l.i
