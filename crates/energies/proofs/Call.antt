@@ -18,17 +18,15 @@ use Rattle.instrument.specs.Valid.{valid, key_at}
 use Rattle.instrument.specs.ValidLaws.{valid_counts}
 use Rattle.instrument.specs.Work.{part_cells}
 use Rattle.string.specs.declared.StringDesign.{StringDesign}
-use Rattle.string.specs.Table.{table_strings}
 use Rattle.strings.specs.Strings.{AllFit, cells_of}
-use Rattle.sample_constants.specs.Model.{strings_of, StringsFilled}
-use Rattle.sample_constants.specs.Laws.{filled_fit, filled_strings}
+use Rattle.sample_constants.specs.Model.{strings_of}
+use Rattle.sample_constants.specs.Laws.{strings_fit}
 use Rattle.render.specs.Work.{cells_are}
 use Rattle.session_record.specs.declared.Session.{Session}
 use Rattle.session_record.specs.Record.{record_refusal}
 use Rattle.session_record.specs.Laws.{Passed, passed}
 use Rattle.energies.specs.declared.KeyEnergy.{KeyEnergy}
 use Rattle.energies.specs.declared.Energies.{Energies}
-use Rattle.energies.specs.declared.EnergiesAnswer.{EnergiesAnswer}
 use Rattle.energies.specs.Energy.{no_energy, key_energy, energies_of, no_energies_for, EnergiesMeet}
 use Rattle.energies.specs.Steps.{sums_after, pair_of}
 use Rattle.energies.proofs.Sums.{key_sum}
@@ -36,21 +34,21 @@ use Rattle.energies.proofs.Sums.{key_sum}
 pub few : (i : Instrument) → valid i ≡ true → (i.key_count ≤ 16) × (i.string_count ≤ 32)
 few i h = let c = valid_counts i h in (c.few_keys, c.few_strings)
 
-module _ (i : Instrument) (h : valid i ≡ true) (lengths : List ℕ) (coefficients : List Float) (f : StringsFilled i lengths coefficients) (cells : List Float) where
-  pub walkable : part_cells i ≤ length cells
-      → AllFit lengths coefficients i.string_count × (cells_of (table_strings lengths coefficients i.string_count) ≤ length cells)
+module _ (i : Instrument) (h : valid i ≡ true) (cells : List Float) {designs : List StringDesign} (e : designs ≡ strings_of i) where
+  pub walkable : part_cells i ≤ length cells → AllFit designs × (cells_of designs ≤ length cells)
   walkable room =
       let c = few i h in
-      (filled_fit i lengths coefficients c.0 f c.1, rw (filled_strings i lengths coefficients c.0 f) (omega (arith, cells_are i h, room)))
+      rw e (strings_fit i c.0 c.1, omega (arith, cells_are i h, room))
 
-  pub energies_are : (sums : List Float) (pairs : List KeyEnergy) → sums ≡ sums_after (table_strings lengths coefficients i.string_count) cells (replicate 16 +0)
+  pub energies_are : (sums : List Float) (pairs : List KeyEnergy) → sums ≡ sums_after designs cells (replicate 16 +0)
       → pairs ≡ pad 16 no_energy (tabulate i.key_count (pair_of i sums)) → record { keys = pairs; count = i.key_count } ≡ energies_of i cells
   unfolding energies_of
   energies_are sums pairs es ep =
-      let d = es ∙ ap (λ (ds : List StringDesign). sums_after ds cells (replicate 16 +0)) (filled_strings i lengths coefficients (few i h).0 f) in
+      let d = es ∙ ap (λ (ds : List StringDesign). sums_after ds cells (replicate 16 +0)) e in
       let pair : ℕ → KeyEnergy = λ k. record { key = (key_at i.keys k).key; energy = key_energy i cells k } in
       let each : (k : ℕ) → k < i.key_count → pair_of i sums k ≡ pair k =
-      λ k q. ap (λ (e : Float). record { key = (key_at i.keys k).key; energy = e }) (ap (λ (l : List Float). get_or l k nan) d ∙ key_sum k (strings_of i) cells (omega (arith, (few i h).0))) in
+      λ k q. ap (λ (e : Float). record { key = (key_at i.keys k).key; energy = e })
+      (ap (λ (l : List Float). get_or l k nan) d ∙ key_sum k (strings_of i) cells (omega (arith, (few i h).0))) in
       ap (λ (l : List KeyEnergy). record { keys = l; count = i.key_count }) (ep ∙ ap (pad 16 no_energy) (tabulate_cong i.key_count (pair_of i sums) pair each))
 
 module _ (i : Instrument) (s : Session) (work : List Float) where

@@ -10,7 +10,6 @@ use lib.ListN.{length, take, drop, get_or, set, replicate, length-set, length-re
 use lib.Seq.{drop-cons, get_or-set_same, get_or-set_other}
 use borrow.Author.Tests.{eqb-true, eqb-false}
 use lib.Ieee.{Float, nan, binary64, add}
-use Rattle.std.specs.List.{fold}
 use Rattle.float.specs.Float.{zero as +0}
 use Rattle.cells.specs.Splice.{splice_same}
 use Rattle.cells.specs.Fold.{fold_parts}
@@ -26,11 +25,11 @@ use Rattle.energies.specs.Steps.{summed_into, sums_after}
 
 -- ---- a line
 
--- squares added one by one are their sum
-pub squares_added : (a : Float) (l : List Float) → fold (λ s v. add binary64 s (square v)) a l ≡ sum_from a (map square l)
+-- one cell more
+pub line_more : (a : Float) (l : List Float) (v : Float) → sum_from a (map square (l ++ (v ∷ []))) ≡ add binary64 (sum_from a (map square l)) (square v)
 unfolding sum_from
-squares_added a [] = refl
-squares_added a (v ∷ l) = squares_added (add binary64 a (square v)) l
+line_more a [] v = refl
+line_more a (x ∷ l) v = line_more (add binary64 a (square x)) l v
 
 -- ---- the strings
 
@@ -39,12 +38,11 @@ abbrev pub kept : ℕ → StringDesign → List Float → List Float
 kept i d p = p
 
 -- a turn of it, which carries b on
-pub turn_kept : {lengths : List ℕ} {coefficients w₀ a₀ w a : List Float} {n at i : ℕ}
-    → WalkAt kept summed_into lengths coefficients n w₀ a₀ w a at i → i < n → (d : StringDesign) → d ≡ design_at lengths coefficients i
-    → (k : ℕ) (b : List Float) → k ≡ size_of d → b ≡ summed_into i d (take (at + k - at) (drop at w)) a
-    → WalkAt kept summed_into lengths coefficients n w₀ a₀ w b (at + k) (i + 1)
-turn_kept {w = w} {at = at} r hi d hd k b hk hb =
-    rw (splice_same at (at + k - at) w) at (at_turn r hi d hd k (take (at + k - at) (drop at w)) b hk (λ p e. e) refl hb)
+pub turn_kept : {designs : List StringDesign} {w₀ a₀ w a : List Float} {at i : ℕ} → WalkAt kept summed_into designs w₀ a₀ w a at i → i < length designs
+    → (k : ℕ) (b : List Float) → k ≡ size_of (design_at designs i)
+    → b ≡ summed_into i (design_at designs i) (take (at + k - at) (drop at w)) a → WalkAt kept summed_into designs w₀ a₀ w b (at + k) (i + 1)
+turn_kept {w = w} {at = at} r hi k b hk hb =
+    rw (splice_same at (at + k - at) w) at (at_turn r hi k (take (at + k - at) (drop at w)) b hk (λ p e. e) refl hb)
 
 -- What the walk leaves in place k is key k's sum, begun from what was there.
 module _ (k : ℕ) where

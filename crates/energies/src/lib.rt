@@ -8,7 +8,6 @@ ghost use Rattle.counting.specs.Below.{pad, tabulate};
 ghost use Rattle.instrument.specs.Valid.{valid};
 ghost use Rattle.instrument.specs.Work.{part_cells};
 ghost use Rattle.string.specs.String.{Strung};
-ghost use Rattle.string.specs.Table.{table_strings};
 ghost use Rattle.strings.specs.Strings.{AllFit, cells_of};
 ghost use Rattle.energies.specs.Energy.{line_energy, string_energy, no_energy, energies_of, EnergiesMeet};
 ghost use Rattle.energies.specs.Steps.{sums_after, pair_of};
@@ -16,7 +15,7 @@ ghost use Rattle.energies.specs.Steps.{sums_after, pair_of};
 use instrument::Instrument;
 use refusal::Refusal;
 use session_record::Session;
-use string::StringDesign;
+use string::{Layout, StringDesign};
 
 // A key's number and its energy.
 #[derive(Clone, Copy)]
@@ -25,7 +24,7 @@ pub struct KeyEnergy {
     pub energy: f64,
 }
 
-// The first `count` are the keys' in the file's order; zeros past them.
+// The first `count` are the keys' in the file's order; zeros past them. An array with its count, since nothing here may allocate.
 #[derive(Clone, Copy)]
 pub struct Energies {
     pub keys: [KeyEnergy; 16],
@@ -56,10 +55,13 @@ fn string_energy(cells: &[f64], d: StringDesign) -> f64
     requires { Strung d cells.now }
     ensures { result ≡ string_energy d cells.now }
 {
-    let b_r = string::at_b_r(d);
-    let b_l = string::at_b_l(d);
-    let c_r = string::at_c_r(d);
-    let c_l = string::at_c_l(d);
+    let Layout {
+        b_r,
+        b_l,
+        c_r,
+        c_l,
+        ..
+    } = d.layout();
     let mut sum = 0.0 + energy_at(cells, 0, d.na);
     sum += energy_at(cells, d.na, d.na);
     sum += energy_at(cells, b_r, d.nb);
@@ -69,23 +71,17 @@ fn string_energy(cells: &[f64], d: StringDesign) -> f64
 }
 
 // Each string's energy is added to its key's sum.
-fn sum_strings(
-    cells: &[f64],
-    sums: &mut [f64; 16],
-    lengths: &[usize; 160],
-    coefficients: &[f64; 128],
-    n: usize,
-)
-    requires all_fit { AllFit lengths.now coefficients.now n }
-    requires n_in_bounds { cells_of (table_strings lengths.now coefficients.now n) ≤ length cells.now }
-    ensures { sums.new ≡ sums_after (table_strings lengths.now coefficients.now n) cells.now sums.old }
+#[tactic(auto, using(strings::specs::Walk::at_fits))]
+fn sum_strings(cells: &[f64], designs: &[StringDesign], sums: &mut [f64; 16])
+    requires all_fit { AllFit designs.now }
+    requires has_cells { cells_of designs.now ≤ length cells.now }
+    ensures { sums.new ≡ sums_after designs.now cells.now sums.old }
 {
-    let mut at = 0usize;
-    for i in 0..n {
-        let d = string::design_at(lengths, coefficients, i);
-        let e = at + string::size(d);
-        sums[d.key] += string_energy(&cells[at..e], d);
-        at = e;
+    let mut at = 0;
+    for d in designs {
+        let end = at + d.layout().size;
+        sums[d.key] += string_energy(&cells[at..end], *d);
+        at = end;
     }
 }
 
@@ -109,15 +105,9 @@ pub fn part_energies(instrument: Instrument, cells: &[f64]) -> Energies
     requires { (valid instrument ≡ true) × (part_cells instrument ≤ length cells.now) }
     ensures { result ≡ energies_of instrument cells.now }
 {
-    let tables = sample_constants::string_tables(instrument);
+    let designs = sample_constants::string_table(&instrument);
     let mut sums = [0.0; 16];
-    sum_strings(
-        cells,
-        &mut sums,
-        &tables.lengths,
-        &tables.coefficients,
-        instrument.string_count,
-    );
+    sum_strings(cells, &designs[..instrument.string_count], &mut sums);
     Energies {
         keys: pairs_of(instrument, &sums),
         count: instrument.key_count,

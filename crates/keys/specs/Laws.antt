@@ -17,7 +17,8 @@ pub folded_list : {D A : Type 0} (xs : List D) (d₀ : D) (h : ℕ → D → A �
 folded_list xs d₀ h a₀ a i r past =
     folded_end (λ (k : ℕ). get_or xs k d₀) h (length xs) a₀ a i r past ∙ ap (λ ds. fold_from h 0 ds a₀) (list_of xs d₀)
 
-pub dampers_same : (keys : List KeyConstants) (down up : ℕ → Bool) (R : List Float) → ((k : ℕ) → k < length keys → down k ≡ up k) → dampers keys down R ≡ dampers keys up R
+pub dampers_same : (keys : List KeyConstants) (down up : ℕ → Bool) (R : List Float) → ((k : ℕ) → k < length keys → down k ≡ up k)
+    → dampers keys down R ≡ dampers keys up R
 unfolding dampers
 dampers_same keys down up R h =
     fold_same (λ k key r. set r k (damped_of key (down k) (get_or r k nan))) (λ k key r. set r k (damped_of key (up k) (get_or r k nan))) 0 keys R
@@ -27,7 +28,8 @@ module _ (ds : List StringDesign) (v r : List Float) (h : length v ≡ length ds
   sums_front : (a : List Float) → sums_from ds (v ++ r) a ≡ sums_from ds v a
   unfolding sums_from
   sums_front a =
-      fold_same (λ i d s. set s d.key (add binary64 (get_or s d.key nan) (get_or (v ++ r) i nan))) (λ i d s. set s d.key (add binary64 (get_or s d.key nan) (get_or v i nan))) 0 ds a
+      fold_same (λ i d s. set s d.key (add binary64 (get_or s d.key nan) (get_or (v ++ r) i nan)))
+      (λ i d s. set s d.key (add binary64 (get_or s d.key nan) (get_or v i nan))) 0 ds a
       (λ k d s q. ap (λ (x : Float). set s d.key (add binary64 (get_or s d.key nan) x)) (get_or-append v r nan k (omega (arith, h, q))))
 
   pub speeds_front : (yz : Float) (keys : List KeyConstants) → bridge_speeds yz keys ds (v ++ r) ≡ bridge_speeds yz keys ds v

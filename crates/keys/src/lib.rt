@@ -42,7 +42,7 @@ pub fn sum_keys(v_in: &[f64], designs: &[StringDesign], sums: &mut [f64; 16])
     ensures { sums.new ≡ sums_from designs.now v_in.now sums.old }
 {
     for (i, d) in designs.iter().enumerate() {
-        sums[d.key] = sums[d.key] + v_in[i];
+        sums[d.key] += v_in[i];
     }
 }
 
@@ -53,7 +53,7 @@ pub fn weighted_total(keys: &[KeyConstants], sums: &[f64; 16]) -> f64
 {
     let mut total = 0.0;
     for (k, key) in keys.iter().enumerate() {
-        total = total + key.weight * sums[k];
+        total += key.weight * sums[k];
     }
     total
 }

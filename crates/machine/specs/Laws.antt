@@ -1,5 +1,5 @@
--- Laws of the refusals and of the plain machine: what a passed test says; the machine stays sound; its refusals are 9 to 16; a cue at an edit's position lives; a go replays no more than
--- it must; and the machine before each call of a list. Assumes nothing.
+-- Laws of the refusals and of the plain machine: what a passed test says; the machine stays sound; its refusals are 9 to 16; a cue at an
+-- edit's position lives; a go replays no more than it must; and the machine before each call of a list. Assumes nothing.
 use Rattle.std.specs.Prelude.{◌≡◌, refl, Bool, not, ◌⊎◌, List, [], ◌∷◌, ℕ, zero, suc, ◌+◌, ◌-◌, ◌≤◌, ◌<◌, leb, ltb, length, take, get_or}
 use Rattle.std.proofs.Common.{sym, ◌∙◌, ap, inl, inr, arith, le-leb, ltb-false, leb-false}
 use Rattle.std.proofs.Math.Bool.{true, false, cond}
@@ -180,20 +180,25 @@ pub allowed_does : (i : Instrument) (p : Machine) (c : Call) → Allowed (does i
 unfolding does_to
 allowed_does i p (Call.play scratch m trace) =
     unless_allowed (play_refusal i p.t scratch m trace) p _
-    (numbered_three (ltb scratch (scratch_cells i)) (ltb trace m) (ltb end (p.t + m)) 9 10 11 (omega arith, omega arith) (omega arith, omega arith) (omega arith, omega arith))
+    (numbered_three (ltb scratch (scratch_cells i)) (ltb trace m) (ltb end (p.t + m)) 9 10 11 (omega arith, omega arith) (omega arith, omega arith)
+    (omega arith, omega arith))
     (λ m e. let z : ◌≡◌ {A = ℕ} 0 1 = cc in omega arith)
 allowed_does i p Call.cue =
-    unless_allowed (cue_refusal p.t p.cues) p _ (numbered_test (leb 4 (others p.t p.cues)) 15 (omega arith, omega arith)) (λ m e. let z : ◌≡◌ {A = ℕ} 0 1 = cc in omega arith)
+    unless_allowed (cue_refusal p.t p.cues) p _ (numbered_test (leb 4 (others p.t p.cues)) 15 (omega arith, omega arith))
+    (λ m e. let z : ◌≡◌ {A = ℕ} 0 1 = cc in omega arith)
 allowed_does i p (Call.go scratch q) =
     unless_allowed (go_refusal i scratch q (start_of p.t p.cues q)) p _
-    (numbered_three (ltb scratch (scratch_cells i)) (ltb end q) (ltb 1000000 (q - start_of p.t p.cues q)) 9 11 16 (omega arith, omega arith) (omega arith, omega arith) (omega arith, omega arith))
+    (numbered_three (ltb scratch (scratch_cells i)) (ltb end q) (ltb 1000000 (q - start_of p.t p.cues q)) 9 11 16 (omega arith, omega arith)
+    (omega arith, omega arith) (omega arith, omega arith))
     (λ m e. let z : ◌≡◌ {A = ℕ} 0 1 = cc in omega arith)
 allowed_does i p (Call.insert e) =
     unless_allowed (insert_refusal (length p.score) e) p _
-    (numbered_three (ltb end e.position) (leb 64 (length p.score)) (not (sound_velocity e.event)) 11 12 13 (omega arith, omega arith) (omega arith, omega arith) (omega arith, omega arith))
+    (numbered_three (ltb end e.position) (leb 64 (length p.score)) (not (sound_velocity e.event)) 11 12 13 (omega arith, omega arith)
+    (omega arith, omega arith) (omega arith, omega arith))
     (λ m e. let z : ◌≡◌ {A = ℕ} 0 1 = cc in omega arith)
 allowed_does i p (Call.remove index) =
-    unless_allowed (remove_refusal (length p.score) index) p _ (numbered_test (leb (length p.score) index) 14 (omega arith, omega arith)) (λ m e. let z : ◌≡◌ {A = ℕ} 0 1 = cc in omega arith)
+    unless_allowed (remove_refusal (length p.score) index) p _ (numbered_test (leb (length p.score) index) 14 (omega arith, omega arith))
+    (λ m e. let z : ◌≡◌ {A = ℕ} 0 1 = cc in omega arith)
 
 -- ---- "Events at q act on sample q, so a cue at q lives."
 
@@ -224,7 +229,8 @@ go_replays i m scratch p n = by_refusal (go_refusal i scratch p (start_of m.t m.
     replayed : p - start_of m.t m.cues p ≡ n → Replayed m p n
     replayed e = record { number = sym e; least = λ x h k. omega (arith, e, greatest_least m.t m.cues p x h k) }
 
-    by_refusal : (a : ℕ) → (unless a m (record { score = m.score; t = p; cues = m.cues }, Reply.went (p - start_of m.t m.cues p))).1 ≡ Reply.went n → Replayed m p n
+    by_refusal : (a : ℕ) → (unless a m (record { score = m.score; t = p; cues = m.cues }, Reply.went (p - start_of m.t m.cues p))).1 ≡ Reply.went n
+        → Replayed m p n
     by_refusal zero e = replayed cc
     by_refusal (suc a) e = absurd (let z : ◌≡◌ {A = ℕ} 0 1 = cc in omega arith)
 
@@ -236,7 +242,8 @@ sound_final i p [] s = s
 sound_final i p (c ∷ cs) s = sound_final i (does i p c).0 cs (sound_does p s i c)
 
 -- reply k is that of call k, after the first k calls
-pub replies_at : (i : Instrument) (p : Machine) (cs : List Call) (k : ℕ) → k < length cs → get_or (replies i p cs) k Reply.cued ≡ (does i (final i p (take k cs)) (get_or cs k Call.cue)).1
+pub replies_at : (i : Instrument) (p : Machine) (cs : List Call) (k : ℕ) → k < length cs
+    → get_or (replies i p cs) k Reply.cued ≡ (does i (final i p (take k cs)) (get_or cs k Call.cue)).1
 unfolding replies_to final_to
 replies_at i p [] k h = absurd (omega arith)
 replies_at i p (c ∷ cs) zero h = refl

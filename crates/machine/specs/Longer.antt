@@ -1,12 +1,13 @@
--- Document 02, W8: "Any list of calls from opening that got no 11 under the old end gets the same answers, score, position and cues under the new one." For any end and
--- a later one, from any machine. One call: the end stands in one test of play, go and insert alone, and where that does not refuse under the earlier end it does not under the later one.
--- Assumes nothing.
+-- Document 02, W8: "Any list of calls from opening that got no 11 under the old end gets the same answers, score, position and cues under
+-- the new one." For any end and a later one, from any machine. One call: the end stands in one test of play, go and insert alone, and where
+-- that does not refuse under the earlier end it does not under the later one. Assumes nothing.
 use Rattle.std.specs.Prelude.{◌≡◌, Bool, true, false, ℕ, zero, suc, ◌+◌, ◌-◌, ◌≤◌, ltb, length}
 use Rattle.std.proofs.Math.Path.{refl}
 use Rattle.std.proofs.Common.{ap, arith, ltb-false, le-ltb}
 use mathlib.Core.List.{List, [], ◌∷◌}
 use Rattle.instrument.specs.declared.Instrument.{Instrument}
-use Rattle.machine.specs.Refusals.{refuse_if, or_else, scratch_test, trace_test, end_test, full_test, velocity_test, replay_test, play_refusal_to, go_refusal_to, insert_refusal_to}
+use Rattle.machine.specs.Refusals.{refuse_if, or_else, scratch_test, trace_test, end_test, full_test, velocity_test, replay_test, play_refusal_to}
+use Rattle.machine.specs.Refusals.{go_refusal_to, insert_refusal_to}
 use Rattle.machine.specs.Machine.{Machine, Call, Reply, start_of, unless, does_to, final_to, replies_to}
 
 -- refused as past the end
@@ -59,7 +60,8 @@ module _ (a b : ℕ) (allows : (q : ℕ) → q ≤ a → q ≤ b) where
   does_longer i p (Call.remove index) h = refl
 
   -- a list of calls
-  same_where_allowed : (i : Instrument) (p : Machine) (cs : List Call) → NonePastEnd (replies_to a i p cs) → (replies_to a i p cs ≡ replies_to b i p cs) × (final_to a i p cs ≡ final_to b i p cs)
+  same_where_allowed : (i : Instrument) (p : Machine) (cs : List Call) → NonePastEnd (replies_to a i p cs)
+      → (replies_to a i p cs ≡ replies_to b i p cs) × (final_to a i p cs ≡ final_to b i p cs)
   unfolding replies_to final_to NonePastEnd
   same_where_allowed i p [] h = (refl, refl)
   same_where_allowed i p (c ∷ cs) h =
@@ -69,5 +71,6 @@ module _ (a b : ℕ) (allows : (q : ℕ) → q ≤ a → q ≤ b) where
 
 module _ (a b : ℕ) (longer : a ≤ b) where
   -- a list of calls of which none is refused as 11 under the end a: the same replies, and the same machine after it
-  pub longer_same : (i : Instrument) (p : Machine) (cs : List Call) → NonePastEnd (replies_to a i p cs) → (replies_to a i p cs ≡ replies_to b i p cs) × (final_to a i p cs ≡ final_to b i p cs)
+  pub longer_same : (i : Instrument) (p : Machine) (cs : List Call) → NonePastEnd (replies_to a i p cs)
+      → (replies_to a i p cs ≡ replies_to b i p cs) × (final_to a i p cs ≡ final_to b i p cs)
   longer_same = same_where_allowed a b (λ q h. omega arith)

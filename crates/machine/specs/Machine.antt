@@ -1,5 +1,5 @@
--- Document 01, "The session": the plain machine. It is fed the instrument, the calls' positions, events and indices, and the lengths of scratch, output and trace; nothing of it comes
--- from the program's session or memory. Definitions only: assumes nothing.
+-- Document 01, "The session": the plain machine. It is fed the instrument, the calls' positions, events and indices, and the lengths of
+-- scratch, output and trace; nothing of it comes from the program's session or memory. Definitions only: assumes nothing.
 use Rattle.std.specs.Prelude.{cond, List, [], ◌∷◌, ℕ, zero, suc, ◌+◌, ◌-◌, ltb, Float, length, drop, get_or}
 use Rattle.instrument.specs.declared.Instrument.{Instrument}
 use Rattle.score.specs.declared.TimedEvent.{TimedEvent}
@@ -26,8 +26,8 @@ pub data Call : Type 0 where
   insert : (e : TimedEvent) → Call
   remove : (index : ℕ) → Call
 
--- "accepted, or the refusal's number; play's k; go's number; an edit's t and number dropped"; with play's contact samples at its end, samples and forces. Document 02, W2: "play returns
--- that sum beside k, compared as k is"
+-- "accepted, or the refusal's number; play's k; go's number; an edit's t and number dropped"; with play's contact samples at its end,
+-- samples and forces. Document 02, W2: "play returns that sum beside k, compared as k is"
 pub data Reply : Type 0 where
   refused : (number : ℕ) → Reply
   played : (k contacts : ℕ) (samples forces : List Float) → Reply

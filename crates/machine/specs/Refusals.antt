@@ -1,5 +1,5 @@
--- Document 01, "Numbers a call may give": 9 to 16, each tested on what is handed in, and for each call those that concern it in their order. The plain machine and the calls'
--- contracts share them. 0 is no refusal. Definitions only: assumes nothing.
+-- Document 01, "Numbers a call may give": 9 to 16, each tested on what is handed in, and for each call those that concern it in their
+-- order. The plain machine and the calls' contracts share them. 0 is no refusal. Definitions only: assumes nothing.
 use Rattle.std.specs.Prelude.{Bool, cond, not, List, ℕ, zero, suc, ◌+◌, ◌-◌, leb, ltb}
 use Rattle.instrument.specs.declared.Instrument.{Instrument}
 use Rattle.score.specs.declared.TimedEvent.{TimedEvent}

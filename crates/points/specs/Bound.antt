@@ -28,7 +28,8 @@ no_contact : T (nonneg +0) × T (le +0 (positive_part +0))
 no_contact = (zero_nonneg, zero_least (positive_part +0) (part_nonneg +0))
 
 -- the force is not negative, and at most the positive part of that
-pub contact_bound : (c : Constants) (h : Option Flight) (key : ℕ) (ys memory : Float) (r : Reads) → T (positive (c1_of c)) → T (le (top_of c h key ys r) half_max)
+pub contact_bound : (c : Constants) (h : Option Flight) (key : ℕ) (ys memory : Float) (r : Reads) → T (positive (c1_of c))
+    → T (le (top_of c h key ys r) half_max)
     → T (nonneg (contact_of c h key ys memory r).force) × T (le (contact_of c h key ys memory r).force (positive_part (top_of c h key ys r)))
 unfolding contact_of top_of touched
 contact_bound c None key ys memory r q l = no_contact

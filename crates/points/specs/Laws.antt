@@ -9,7 +9,8 @@ use Rattle.points.specs.declared.Constants.{Constants}
 use Rattle.points.specs.declared.Flight.{Flight}
 use Rattle.points.specs.Points.{struck, turned}
 
-pub struck_length : (c : Constants) (h : Option Flight) (R : Float) (d : StringDesign) (t : ℕ) (r : Reads) (p : List Float) → length (struck c h R d t r p) ≡ length p
+pub struck_length : (c : Constants) (h : Option Flight) (R : Float) (d : StringDesign) (t : ℕ) (r : Reads) (p : List Float)
+    → length (struck c h R d t r p) ≡ length p
 unfolding struck
 struck_length c h R d t r p = simp (points_length, length-set)
 

@@ -2,13 +2,13 @@
 #![tactic(auto)]
 
 ghost use Rattle.std.specs.Prelude.{◌≡◌, length};
-ghost use Rattle.string.specs.String.{Strung, IndicesAt, reads_of};
+ghost use Rattle.string.specs.String.{size_of, reads_of};
 ghost use Rattle.points.specs.Points.{remembered, touched, contact_of, contact_at, damped_by, turned, summed};
 
 use float::{min, positive_part};
 use hammer::{Hammer, contact_force};
 use power::power;
-use string::{Indices, Reads, StringDesign};
+use string::{Reads, StringAt};
 
 // What the rules compute from the instrument's numbers before the first sample; two_z is 2 z.
 #[derive(Clone, Copy)]
@@ -40,6 +40,19 @@ pub struct Contact {
 pub struct ForceSum {
     pub force_sum: f64,
     pub any_contact: bool,
+}
+
+impl ForceSum {
+    // One more string's force, f.
+    #[tactic(auto, unfolding(crate::specs::Points::summed))]
+    pub fn with(self, f: f64) -> ForceSum
+        ensures { result ≡ summed self f }
+    {
+        ForceSum {
+            force_sum: self.force_sum + f,
+            any_contact: f > 0.0 || self.any_contact,
+        }
+    }
 }
 
 fn memory_after(c: Constants, memory: f64, xp: f64) -> f64
@@ -98,34 +111,21 @@ pub fn strike_string(
     part: &mut [f64],
     c: Constants,
     hammer: Option<Flight>,
-    d: StringDesign,
+    s: StringAt,
     damper_r: f64,
-    x: Indices,
-    t: u64,
 ) -> f64
-    requires strung { Strung d part.old }
-    requires indices_at { IndicesAt d t x }
-    ensures { (result ≡ (contact_at c hammer d (reads_of d t part.old) part.old).force)
-        × (part.new ≡ turned c hammer damper_r d t part.old) }
+    requires { length part.old ≡ size_of s.design }
+    ensures force { result ≡ (contact_at c hammer s.design (reads_of s.design s.t part.old) part.old).force }
+    ensures cells { part.new ≡ turned c hammer damper_r s.design s.t part.old }
 {
-    let at = d.layout();
-    let r = string::read_string(part, d, x, t);
+    let at = s.design.layout();
+    let r = s.read(part);
     let y_s = part[at.y_s];
-    let touch = feel(c, hammer, d.key, y_s, part[at.memory], r);
+    let touch = feel(c, hammer, s.design.key, y_s, part[at.memory], r);
     let inject_h = touch.force / c.two_z;
     let inject_d = inject(c, damper_r, r);
     part[at.memory] = touch.memory;
     part[at.y_s] = y_s + c.dt * (r.a + r.b + inject_h);
-    string::write_string(part, d, x, t, r, inject_h, inject_d);
+    s.write(part, r, inject_h, inject_d);
     touch.force
-}
-
-#[tactic(auto, unfolding(crate::specs::Points::summed))]
-pub fn add_force(s: ForceSum, f: f64) -> ForceSum
-    ensures { result ≡ summed s f }
-{
-    ForceSum {
-        force_sum: s.force_sum + f,
-        any_contact: f > 0.0 || s.any_contact,
-    }
 }

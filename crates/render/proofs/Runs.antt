@@ -10,12 +10,13 @@ use lib.ListN.{length, get_or, set, length-append}
 use lib.Seq.{sets, length-sets}
 use lib.Ieee.{Float}
 use Rattle.cells.specs.Numbered.{list_length}
+use Rattle.string.specs.declared.StringDesign.{StringDesign}
 use Rattle.instrument.specs.declared.Instrument.{Instrument}
 use Rattle.sample.specs.declared.Motion.{Motion}
-use Rattle.sample.specs.Sample.{Model, Step, Ready, model_at, sampled, counted_for}
+use Rattle.sample.specs.Sample.{Model, Step, Ready, sampled, counted_for}
 use Rattle.sample.specs.Laws.{sampled_force, sampled_same}
-use Rattle.sample_constants.specs.Model.{setup_of, strings_of, model_of, key_in, KeysFilled, StringsFilled}
-use Rattle.sample_constants.specs.Laws.{filled_fit, filled_strings, filled_model}
+use Rattle.sample_constants.specs.Model.{strings_of, string_in, model_of, key_in}
+use Rattle.sample_constants.specs.Laws.{strings_fit}
 use Rattle.score.specs.declared.Piano.{Piano}
 use Rattle.score.specs.declared.TimedEvent.{TimedEvent}
 use Rattle.score.specs.Events.{State, Playable, is_down, apply_all}
@@ -173,37 +174,33 @@ module _ (i : Instrument) (score : List TimedEvent) (t : ℕ) (s e : State) (D :
       ap (λ (x : Stepped). sample_at i score (t + suc n) x.state) (sample_same n (λ u a b. none u a (omega arith)))
       ∙ later_same (t + suc n) (state_by still t (suc n) e) (kept (suc n)) (none (t + suc n) (omega arith) (omega arith))
 
--- ---- what filled tables give the functions that read them
+-- ---- what the instrument's strings and keys give the functions that read them
 
-module _ {i : Instrument} {lengths : List ℕ} {coefficients part scratch : List Float} (can : Renderable i part scratch) (strung : StringsFilled i lengths coefficients) where
-  pub tables_playable : (w : List Float) → length w ≡ length part → Playable i lengths coefficients i.string_count w
-  tables_playable w h = record {
+module _ {i : Instrument} {part scratch : List Float} (can : Renderable i part scratch) where
+  pub strings_playable : {designs : List StringDesign} → designs ≡ strings_of i → (w : List Float) → length w ≡ length part → Playable i designs w
+  strings_playable e w h = rw e (record {
     keys = can.keys;
-    few = can.strings;
-    cells = rw (filled_strings i lengths coefficients can.keys strung) (omega (arith, can.cells));
-  }
+    few = rw (list_length (string_in i) 0 i.string_count) can.strings;
+    cells = omega (arith, can.cells);
+  })
 
-  tables_ready : (w v : List Float) → length w ≡ length part → length v ≡ length scratch → Ready (setup_of i) lengths coefficients w v
-  unfolding setup_of
-  tables_ready w v hw hv = record {
-    fit = filled_fit i lengths coefficients can.keys strung can.strings;
-    keys = can.keys;
-    cells = (tables_playable w hw).cells;
-    scratch = omega (arith, can.room);
-  }
+  pub model_ready : {m : Model} → m ≡ model_of i → (w v : List Float) → length w ≡ length part → length v ≡ length scratch → Ready m w v
+  model_ready e w v hw hv = rw e (record {
+    fit = strings_fit i can.keys can.strings;
+    keys = rw (list_length (key_in i) 0 i.key_count) can.keys;
+    cells = omega (arith, can.cells);
+    scratch = rw (list_length (string_in i) 0 i.string_count) (omega (arith, can.room));
+  })
 
   -- of a stretch that follows a run of the score
   module _ {score : List TimedEvent} {t m : ℕ} {r : Run} {cells cells' : List Float} {s : Stretch} (q : NextStretch i score t m r cells cells' s) where
-    pub stretch_ready : (v : List Float) → length cells' ≡ length part → length v ≡ length scratch → Ready s.setup lengths coefficients cells' v
-    stretch_ready v hw hv = rw q.setup (tables_ready cells' v hw hv)
-
-    pub stretch_in_range : InRange i.key_count r t m → InRange s.setup.keys s.run s.t s.stop
-    unfolding setup_of contacts_of
+    pub stretch_in_range : InRange i.key_count r t m → InRange i.key_count s.run s.t s.stop
+    unfolding contacts_of
     stretch_in_range g =
         let es = events_at score (t + r.done) in
         let S : State = record { piano = r.piano; cells = cells } in
         let count = ap (λ (x : State). x.piano.contact_samples) q.acted ∙ apply_all_count i (strings_of i) es S in
-        rw (q.start, q.setup, q.done) (record {
+        rw (q.start, q.done) (record {
           below = omega (arith, q.more);
           end = omega (arith, g.end, q.most);
           piano = record { within = rw count g.piano.within; hammer = rw (← q.acted) at (all_on i (strings_of i) es S g.piano.hammer) };
@@ -211,18 +208,17 @@ module _ {i : Instrument} {lengths : List ℕ} {coefficients part scratch : List
         })
 
     -- its samples are samples of the score
-    pub stretch_advanced : {table : List Float} → KeysFilled i table → {out trace : List Float} {b : Rendering}
-        → Advanced (stretch_step s table lengths coefficients) s.t (rendering_of s.run cells' out trace) b → b.done ≡ s.stop
+    pub stretch_advanced : {model : Model} → model ≡ model_of i → {out trace : List Float} {b : Rendering}
+        → Advanced (stretch_step s model) s.t (rendering_of s.run cells' out trace) b → b.done ≡ s.stop
         → Advanced (sample_at i score) t (rendering_of r cells out trace) b
     unfolding state_after
-    stretch_advanced {table} keyed {out} {trace} {b} w stopped =
+    stretch_advanced {model} filled {out} {trace} {b} w stopped =
         let D : ℕ → Bool = λ k. get_or s.down k false in
         let still = stepped (model_of i) D in
         let S : State = record { piano = r.piano; cells = cells } in
         let E : State = record { piano = s.run.piano; cells = cells' } in
         let u = t + r.done in
         let n = b.done - r.done in
-        let filled : model_at s.setup table lengths coefficients ≡ model_of i = rw q.setup (filled_model i lengths coefficients can.keys strung table keyed) in
         let went = rw (filled, q.start, q.done, q.pushed) at w in
         let same : (k : ℕ) → k < b.done - r.done → sample_at i score (u + k) (run i score u k S) ≡ still (u + k) (state_by still u k E) =
         λ k h. sample_same i score u S E D q.acted q.down.each k (λ x a c. q.none x a (omega (arith, c, h, stopped))) in
@@ -239,8 +235,7 @@ module _ {i : Instrument} {lengths : List ℕ} {coefficients part scratch : List
           forced = rw (listed (λ x. x.force)) went.forced;
         }
 
-    pub stretch_done : {r' : Run} → InRange i.key_count r t m → InRange s.setup.keys r' s.t s.stop → InRange i.key_count r' t m
-    unfolding setup_of
+    pub stretch_done : {r' : Run} → InRange i.key_count r t m → InRange i.key_count r' s.t s.stop → InRange i.key_count r' t m
     stretch_done g h =
-        let k = rw (q.start, q.setup) at h in
+        let k = rw q.start at h in
         record { below = omega (arith, k.below, q.most); end = g.end; piano = k.piano; pushes = k.pushes }

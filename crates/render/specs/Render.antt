@@ -6,8 +6,8 @@ use Rattle.counting.specs.Below.{sum_below}
 use Rattle.instrument.specs.declared.Instrument.{Instrument}
 use Rattle.strings.specs.Strings.{cells_of}
 use Rattle.sample.specs.declared.Motion.{Motion}
-use Rattle.sample.specs.Sample.{Model, model_at, sampled, counted_for}
-use Rattle.sample_constants.specs.Model.{setup_of, strings_of, model_of}
+use Rattle.sample.specs.Sample.{Model, sampled, counted_for}
+use Rattle.sample_constants.specs.Model.{strings_of, model_of}
 use Rattle.score.specs.declared.Piano.{Piano}
 use Rattle.score.specs.declared.Event.{Event}
 use Rattle.score.specs.declared.TimedEvent.{TimedEvent}
@@ -144,13 +144,12 @@ pub record Renderable (i : Instrument) (part scratch : List Float) : Type 0 wher
   pub cells : cells_of (strings_of i) ≤ length part
   pub room : i.string_count ≤ length scratch
 
--- A sample of a stretch, from the tables: no event acts on it, and its dampers stay where they are to be.
-abbrev pub stretch_step : Stretch → List Float → List ℕ → List Float → ℕ → State → Stepped
-stretch_step s table lengths coefficients = stepped (model_at s.setup table lengths coefficients) (λ k. get_or s.down k false)
+-- A sample of a stretch: no event acts on it, and its dampers stay where they are to be.
+abbrev pub stretch_step : Stretch → Model → ℕ → State → Stepped
+stretch_step s m = stepped m (λ k. get_or s.down k false)
 
 -- The stretch that follows a run of a score: the events at the run's next sample act on the cells too, and no event lies behind that sample.
 pub record NextStretch (i : Instrument) (score : List TimedEvent) (t m : ℕ) (r : Run) (cells cells' : List Float) (s : Stretch) : Type 0 where
-  pub setup : s.setup ≡ setup_of i
   pub acted : record { piano = s.run.piano; cells = cells' } ≡ apply_all i (strings_of i) (events_at score (t + r.done)) (record { piano = r.piano; cells = cells })
   pub down : AllDown i s.run.piano s.down
   pub start : s.t ≡ t

@@ -4,15 +4,16 @@
 ghost use Rattle.std.specs.Prelude.{◌≡◌, ℕ, ◌+◌, ◌≤◌, ◌<◌, ◌^◌, length, set, replicate, option_to_list};
 ghost use Rattle.float.specs.Float.{zero};
 ghost use Rattle.std.proofs.lemmas.List.Edits.{sets};
-ghost use Rattle.sample.specs.Sample.{Ready};
-ghost use Rattle.sample_constants.specs.Model.{StringsFilled};
+ghost use Rattle.sample.specs.Sample.{Ready, model_at};
+ghost use Rattle.sample_constants.specs.Model.{strings_of};
 ghost use Rattle.score.specs.Events.{Playable};
 ghost use Rattle.score.specs.Score.{events_of};
 ghost use Rattle.render.specs.Render.{Advanced, InRange, PianoAt, NextStretch, Renderable, Rendered, rendering_of, unstarted, stretch_step, silent_piano};
 
 use instrument::Instrument;
-use sample::{Motion, Setup};
+use sample::{Motion, Tables};
 use score::{Piano, Score, TimedEvent};
+use string::{Indices, StringDesign};
 
 // A run in progress: the piano, how many samples are done, and how many forces were pushed.
 #[derive(Clone, Copy)]
@@ -22,16 +23,18 @@ pub struct Run {
     pub pushed: usize,
 }
 
-// Samples with no event behind the first: the numbers they are computed with, which dampers are to be down, the run that
-// they go on from, and how many samples are done where they stop. Sample 0 of the run is at position t.
+// Samples with no event behind the first: which dampers are to be down, the run that they go on from, and how many samples are
+// done where they stop. Sample 0 of the run is at position t.
 #[derive(Clone, Copy)]
 pub struct Stretch {
-    pub setup: Setup,
     pub down: [bool; 16],
     pub run: Run,
     pub t: u64,
     pub stop: u64,
 }
+
+// The indices of a string's lines before the first sample.
+const UNINDEXED: Indices = Indices { a: 0, b: 0, c: 0 };
 
 // A store where there is a cell for it: a run without output has none.
 fn put(cells: &mut [f64], i: usize, x: f64)
@@ -56,34 +59,29 @@ fn push(trace: &mut [f64], k: usize, force: Option<f64>) -> usize
     }
 }
 
-// The samples of a stretch: the one loop over samples, which counts them up.
+// The samples of a stretch: the one loop over samples.
 fn play_stretch(
     part: &mut [f64],
     scratch: &mut [f64],
     out: &mut [f64],
     trace: &mut [f64],
-    table: &[f64; 64],
-    lengths: &[usize; 160],
-    coefficients: &[f64; 128],
+    tables: Tables<'_>,
     stretch: Stretch,
 ) -> Run
-    requires ready { Ready stretch.setup lengths.now coefficients.now part.old scratch.old }
-    requires in_range { InRange stretch.setup.keys stretch.run stretch.t stretch.stop }
-    ensures { Advanced (stretch_step stretch table.now lengths.now coefficients.now) stretch.t
+    requires ready { Ready (model_at tables) part.old scratch.old }
+    requires in_range { InRange (length tables.keys.now) stretch.run stretch.t stretch.stop }
+    ensures { Advanced (stretch_step stretch (model_at tables.entry)) stretch.t
         (rendering_of stretch.run part.old out.old trace.old)
         (rendering_of result part.new out.new trace.new)
-        × (result.done ≡ stretch.stop) × InRange stretch.setup.keys result stretch.t stretch.stop }
+        × (result.done ≡ stretch.stop) × InRange (length tables.entry.keys.now) result stretch.t stretch.stop }
 {
-    let Stretch {
-        setup,
-        down,
-        run,
-        t,
-        stop,
-    } = stretch;
+    let Stretch { down, run, t, stop } = stretch;
     let mut piano = run.piano;
     let mut pushed = run.pushed;
-    let mut indices = strings::first_indices(lengths, coefficients, setup.strings, t + run.done);
+    let designs = tables.designs;
+    let mut room = [UNINDEXED; 32];
+    let indices = &mut room[..designs.len()];
+    strings::first_indices(designs, indices, t + run.done);
     for done in run.done..stop {
         let at = t + done;
         let hammer = piano.motion.hammer;
@@ -92,15 +90,12 @@ fn play_stretch(
             scratch,
             &mut piano.damper_r,
             &down,
-            table,
-            lengths,
-            coefficients,
-            &indices,
-            setup,
+            tables,
+            indices,
             piano.motion,
             at,
         );
-        strings::next_indices(&mut indices, lengths, coefficients, setup.strings, at);
+        strings::next_indices(designs, indices, at);
         sample::count_contact(&mut piano.contact_samples, hammer, s.contact);
         put(out, done as usize, s.out);
         pushed = push(trace, pushed, s.force);
@@ -116,29 +111,26 @@ fn play_stretch(
 // The stretch that follows a run: the events at t + run.done act, and it goes on to the next event or to m.
 fn next_stretch(
     part: &mut [f64],
-    lengths: &[usize; 160],
-    coefficients: &[f64; 128],
+    designs: &[StringDesign],
     instrument: Instrument,
     events: &[TimedEvent],
     run: Run,
     t: u64,
     m: u64,
 ) -> Stretch
-    requires playable { Playable instrument lengths.now coefficients.now instrument.string_count part.old }
-    requires strings_filled { StringsFilled instrument lengths.now coefficients.now }
+    requires playable { Playable instrument designs.now part.old }
+    requires strings { designs.now ≡ strings_of instrument }
     requires done_lt_m { run.done < m }
     requires m_bound { t + m < 2 ^ 64 }
     ensures { NextStretch instrument events.now t m run part.old part.new result }
 {
     let at = t + run.done;
-    let n = instrument.string_count;
-    let piano = score::apply_events(part, lengths, coefficients, n, instrument, events, run.piano, at);
+    let piano = score::apply_events(part, designs, instrument, events, run.piano, at);
     let stop = match score::next_event(events, at + 1) {
         Some(next) => m.min(next - t),
         None => m,
     };
     Stretch {
-        setup: sample_constants::setup_of(instrument),
         down: score::dampers_down(instrument, piano),
         run: Run { piano, ..run },
         t,
@@ -165,8 +157,13 @@ pub fn render(
     ensures { Rendered instrument (events_of score) t m (unstarted piano part.old out.old trace.old)
         (rendering_of result part.new out.new trace.new) }
 {
-    let table = sample_constants::key_table(instrument);
-    let tables = sample_constants::string_tables(instrument);
+    let keys = sample_constants::key_table(&instrument);
+    let strings = sample_constants::string_table(&instrument);
+    let tables = Tables {
+        constants: sample_constants::constants_of(instrument.common),
+        keys: &keys[..instrument.key_count],
+        designs: &strings[..instrument.string_count],
+    };
     let events = &score.events[..score.count];
     let mut run = Run {
         piano,
@@ -174,26 +171,8 @@ pub fn render(
         pushed: 0,
     };
     while run.done < m {
-        let stretch = next_stretch(
-            part,
-            &tables.lengths,
-            &tables.coefficients,
-            instrument,
-            events,
-            run,
-            t,
-            m,
-        );
-        run = play_stretch(
-            part,
-            scratch,
-            out,
-            trace,
-            &table,
-            &tables.lengths,
-            &tables.coefficients,
-            stretch,
-        );
+        let stretch = next_stretch(part, tables.designs, instrument, events, run, t, m);
+        run = play_stretch(part, scratch, out, trace, tables, stretch);
     }
     run
 }

@@ -24,7 +24,8 @@ use Rattle.strings.specs.Strings.{AllFit, cells_of, filtered_one, filtered_all, 
 
 -- ---- one stage of one string, whose cells start at o: it is lent its two cells by their place among all
 
-module _ (d : StringDesign) (o s z k : ℕ) (w : List Float) (hs : s < d.ap_count) (fits : o + size_of d ≤ length w) (hz : z ≡ o + at_row d + 2 * s) (hk : k ≡ 2) where
+module _ (d : StringDesign) (o s z k : ℕ) (w : List Float) (hs : s < d.ap_count) (fits : o + size_of d ≤ length w)
+    (hz : z ≡ o + at_row d + 2 * s) (hk : k ≡ 2) where
   abbrev a : Float
   a = d.filter.ap_a
 
@@ -47,9 +48,11 @@ module _ (d : StringDesign) (o s z k : ℕ) (w : List Float) (hs : s < d.ap_coun
   pub stage_out_lem : (x r : Float) → r ≡ stage_out a (part z k w) x → r ≡ out_at a (at_row d + 2 * s) 2 x p
   stage_out_lem x r e = e ∙ ap (λ (l : List Float). stage_out a l x) lent ∙ (stage_row a x (part (at_row d + 2 * s) 2 p) two).0
 
-  pub stage_cells_lem : (x : Float) (ys : List Float) → ys ≡ stage_cells a (part z k w) x → splice z k ys w ≡ splice o (size_of d) (row_at a (at_row d + 2 * s) 2 x p) w
+  pub stage_cells_lem : (x : Float) (ys : List Float) → ys ≡ stage_cells a (part z k w) x
+      → splice z k ys w ≡ splice o (size_of d) (row_at a (at_row d + 2 * s) 2 x p) w
   stage_cells_lem x ys e =
-      let is : ys ≡ row_cells a (part (at_row d + 2 * s) 2 p) x = e ∙ ap (λ (l : List Float). stage_cells a l x) lent ∙ (stage_row a x (part (at_row d + 2 * s) 2 p) two).1 in
+      let is : ys ≡ row_cells a (part (at_row d + 2 * s) 2 p) x =
+      e ∙ ap (λ (l : List Float). stage_cells a l x) lent ∙ (stage_row a x (part (at_row d + 2 * s) 2 p) two).1 in
       rw (here, hk, is) (splice_inside o (size_of d) (at_row d + 2 * s) 2 (row_cells a (part (at_row d + 2 * s) 2 p) x) w fits inside)
 
 -- ---- passes over a few strings
@@ -61,9 +64,6 @@ module _ (f : ℕ → StringDesign) where
   -- string k's cells are there where a later string's start is
   pub cells_fit : (k j : ℕ) → k < j → string_start f k + size_at f k ≤ string_start f j
   cells_fit k j h = ends_before (string_start f) (size_at f) next k j h
-
-  pub string_fits : (k j : ℕ) → k < j → (d : StringDesign) → d ≡ f k → string_start f k + size_of d ≤ string_start f j
-  string_fits k j h d e = rw e (cells_fit k j h)
 
   pub cells_length : (k j : ℕ) (w : List Float) → k < j → string_start f j ≤ length w → length (cells_in f k w) ≡ size_of (f k)
   cells_length k j w h room =
@@ -110,7 +110,8 @@ module _ (f : ℕ → StringDesign) where
     long = q.long ∙ r.long;
     cells = moved_after (string_start f) (size_at f) next r.cells q.cells (λ l p. rowed_to (d l) (2 * (s + 1)) (get_or v₀ l nan) p)
         (λ l h. ap (λ (x : Float). row_at (c l) (at_row (d l) + 2 * s) 2 x (rowed_to (d l) (2 * s) (get_or v₀ l nan) (own l))) (r.values l h)
-        ∙ next_row (c l) (get_or v₀ l nan) s (at_row (d l)) (2 * s) 2 (own l) even (fits l h) ∙ ap (λ (n : ℕ). rowed_to (d l) n (get_or v₀ l nan) (own l)) more);
+        ∙ next_row (c l) (get_or v₀ l nan) s (at_row (d l)) (2 * s) 2 (own l) even (fits l h)
+        ∙ ap (λ (n : ℕ). rowed_to (d l) n (get_or v₀ l nan) (own l)) more);
     values = λ l h. q.values l h
         ∙ ap (λ (x : Float). out_at (c l) (at_row (d l) + 2 * s) 2 x (cells_in f (i + l) w)) (r.values l h)
         ∙ ap (λ (p : List Float). out_at (c l) (at_row (d l) + 2 * s) 2 (out_to (d l) (2 * s) (get_or v₀ l nan) (own l)) p) (r.cells.each l h)
@@ -145,15 +146,6 @@ module _ (f : ℕ → StringDesign) where
     long = refl;
     cells = record { same = refl; before = refl; each = λ l h. sym (splice_same (at_row (f (i + l))) 0 (cells_in f (i + l) w)); past = refl };
     values = λ l h. refl;
-  }
-
-  -- no row is laid yet
-  pub laid_none : (i : ℕ) (r : Rows) → r.stages ≤ 66 → Laid f i 0 r
-  laid_none i r h = record {
-    start = λ l q. let z : ⊥ = omega arith in absurd z;
-    coefficient = λ l q. let z : ⊥ = omega arith in absurd z;
-    enough = λ l q. let z : ⊥ = omega arith in absurd z;
-    most = h;
   }
 
   -- one more row is laid
@@ -192,7 +184,8 @@ module _ (f : ℕ → StringDesign) where
         → Finished f i (l + 1) n v w₀ (splice at (at + k - at) ys w) o₀ (set o (i + l) r) (at + k)
     finished_turn n v o₀ o e q hs ho r ys er ey = record {
       cells = on_turn q.cells room hl at k ha hk (λ p h. finished_length (f (i + l)) n (get_or v l nan) p hs h) ys ey;
-      outputs = stored_turn nan q.outputs ho r (er ∙ ap (λ (p : List Float). finished_out (f (i + l)) n (get_or v l nan) p) (on_kept q.cells room hl at k ha hk));
+      outputs = stored_turn nan q.outputs ho r
+          (er ∙ ap (λ (p : List Float). finished_out (f (i + l)) n (get_or v l nan) p) (on_kept q.cells room hl at k ha hk));
       end = on_next q.cells room hl at k ha hk;
     }
 
@@ -238,9 +231,11 @@ module _ (f : ℕ → StringDesign) where
       let own : v_in (f i) t (take (at + k - at) (drop at w₀)) ≡ v_in (f (i + 0)) t (cells_in f (i + 0) w₀) =
       ap (λ (n : ℕ). v_in (f n) t (take (at + k - at) (drop at w₀))) z ∙ ap (λ (p : List Float). v_in (f (i + 0)) t p) (on_kept none room one at k here size) in
       record {
-        cells = on_turn none room one at k here size (λ p h. filtered_length (f (i + 0)) t p h) ys (ey ∙ ap (λ (n : ℕ). filtered (f n) t (take (at + k - at) (drop at w₀))) z);
+        cells = on_turn none room one at k here size (λ p h. filtered_length (f (i + 0)) t p h) ys
+            (ey ∙ ap (λ (n : ℕ). filtered (f n) t (take (at + k - at) (drop at w₀))) z);
         outputs = subst (λ (n : ℕ). Stored nan i 1 (λ l. v_in (f (i + l)) t (cells_in f (i + l) w₀)) o₀ (set o₀ n r)) (add-zero i)
-            (stored_turn nan (moved_none (λ j. j) (λ j. 1) (λ j. refl) i (λ l p. v_in (f (i + l)) t (cells_in f (i + l) w₀) ∷ []) o₀) (omega arith) r (er ∙ own));
+            (stored_turn nan (moved_none (λ j. j) (λ j. 1) (λ j. refl) i (λ l p. v_in (f (i + l)) t (cells_in f (i + l) w₀) ∷ []) o₀)
+            (omega arith) r (er ∙ own));
         end = on_next none room one at k here size;
       }
 
@@ -254,7 +249,8 @@ module _ (f : ℕ → StringDesign) where
         (λ l p. rowed_to (f (i + l)) (2 * r.stages) (get_or v₁ l nan) (started (f (i + l)) t p)) (λ l h. refl))
         c.cells (λ l p. filtered (f (i + l)) t p)
         (λ l h. ap (λ (x : Float). finished (d l) k x (rowed_to (d l) k (get_or v₁ l nan) (started (d l) t (own l)))) (value l h)
-        ∙ ap (λ (x : Float). finished (d l) k (out_to (d l) k (u_in (d l) t (own l)) (started (d l) t (own l))) (rowed_to (d l) k x (started (d l) t (own l)))) (a.values l h)
+        ∙ ap (λ (x : Float). finished (d l) k (out_to (d l) k (u_in (d l) t (own l)) (started (d l) t (own l)))
+        (rowed_to (d l) k x (started (d l) t (own l)))) (a.values l h)
         ∙ steps_filtered (d l) t r.stages k (own l) even (enough l h) (long l h));
     outputs = stored_as nan c.outputs (λ l. v_in (f (i + l)) t (cells_in f (i + l) w₀)) (λ l h.
         ap (λ (x : Float). finished_out (d l) k x (cells_in f (i + l) w₂)) (value l h)
@@ -324,7 +320,8 @@ module _ (f : ℕ → StringDesign) where
       → (w ≡ filtered_all (list_from f 0 n) t w₀) × (o ≡ v_ins (list_from f 0 n) t w₀ ++ drop n o₀)
   below_all {n} {t} {at} {w₀} {w} {o₀} {o} r long = (
     moved_all size_of f (filtered_one t) w₀ w n r.cells,
-    stored_all nan (λ k. v_in (f k) t (cells_in f k w₀)) o₀ o n r.outputs long ∙ ap (λ (l : List Float). l ++ drop n o₀) (sym (collect_own size_of f (v_in_one t) w₀ n)),
+    stored_all nan (λ k. v_in (f k) t (cells_in f k w₀)) o₀ o n r.outputs long
+        ∙ ap (λ (l : List Float). l ++ drop n o₀) (sym (collect_own size_of f (v_in_one t) w₀ n)),
   )
 
 module _ (designs : List StringDesign) where
@@ -338,10 +335,6 @@ module _ (designs : List StringDesign) where
   filtered_whole t at w₀ w o₀ o r long =
       subst (λ (ds : List StringDesign). (w ≡ filtered_all ds t w₀) × (o ≡ v_ins ds t w₀ ++ drop (length designs) o₀))
       (list_of designs past_design) (below_all (design_at designs) r long)
-
--- a pass leaves them as many cells
-pub few_still : {designs : List StringDesign} {here : Place} {m : ℕ} {w₀ w : List Float} → Few designs here m w₀ → length w ≡ length w₀ → Few designs here m w
-few_still r e = let room = r.room in record { few = r.few; known = r.known; fit = r.fit; start = r.start; room = omega (arith, room, e) }
 
 -- what is asked of the next m strings
 pub next_few : {designs : List StringDesign} {here : Place} {m : ℕ} {w : List Float} → AllFit designs → cells_of designs ≤ length w

@@ -7,7 +7,7 @@ ghost use Rattle.string.specs.Table.{design_at};
 ghost use Rattle.strings.specs.Strings.{AllFit, Indexed, cells_of, filtered_all, v_ins};
 ghost use Rattle.rows.specs.Rows.{string_start, Few, Laid, Started, Staged, InRows, Finished, Filtered, FilteredTo};
 
-use string::{Indices, StringDesign};
+use string::{Indices, StringAt, StringDesign};
 
 // Of a few strings that go through their rows together: where each row starts among the part's cells, its coefficient, and
 // how many stages all of them have.
@@ -42,7 +42,7 @@ fn rows_of<const M: usize>(designs: &[StringDesign], here: Place) -> Rows
         starts[l] = at + layout.row;
         ap_a[l] = d.filter.ap_a;
         stages = stages.min(d.ap_count);
-        at = at + layout.size;
+        at += layout.size;
     }
     Rows {
         starts,
@@ -68,7 +68,12 @@ fn start_strings<const M: usize>(
     for l in 0..M {
         let d = designs[here.i + l];
         let end = at + d.layout().size;
-        v[l] = string::start_filter(&mut part[at..end], d, indices[here.i + l], t);
+        let s = StringAt {
+            design: d,
+            indices: indices[here.i + l],
+            t,
+        };
+        v[l] = s.start_filter(&mut part[at..end]);
         at = end;
     }
     v
@@ -133,7 +138,7 @@ fn finish_strings<const M: usize>(
     for l in 0..M {
         let d = designs[here.i + l];
         let end = at + d.layout().size;
-        v_in[here.i + l] = string::finish_filter(&mut part[at..end], d, k, v[l]);
+        v_in[here.i + l] = d.finish_filter(&mut part[at..end], k, v[l]);
         at = end;
     }
     at
@@ -181,7 +186,12 @@ fn filter_one(
     let Place { i, at } = here;
     let d = designs[i];
     let end = at + d.layout().size;
-    v_in[i] = string::filter_string(&mut part[at..end], d, indices[i], t);
+    let s = StringAt {
+        design: d,
+        indices: indices[i],
+        t,
+    };
+    v_in[i] = s.filter(&mut part[at..end]);
     Place { i: i + 1, at: end }
 }
 

@@ -16,12 +16,10 @@ use Rattle.strings.specs.Strings.{reads_all, filtered_all}
 use Rattle.strings.specs.Bound.{TopsFit, point_bound, force_sum_bound}
 use Rattle.keys.specs.Laws.{dampers_same}
 use Rattle.sample.specs.declared.Motion.{Motion}
-use Rattle.sample.specs.declared.Setup.{Setup}
 use Rattle.sample.specs.Sample.{Model, Ready, sampled}
 
 -- cells that are ready stay so: only their number is asked
-pub ready_kept : {setup : Setup} {lengths : List ℕ} {coefficients w v w' v' : List Float} → Ready setup lengths coefficients w v → length w' ≡ length w → length v' ≡ length v
-    → Ready setup lengths coefficients w' v'
+pub ready_kept : {m : Model} {w v w' v' : List Float} → Ready m w v → length w' ≡ length w → length v' ≡ length v → Ready m w' v'
 ready_kept r hw hv = record { fit = r.fit; keys = r.keys; cells = omega (arith, r.cells); scratch = omega (arith, r.scratch) }
 
 module _ (m : Model) (down : ℕ → Bool) (t : ℕ) (R : List Float) (motion : Motion) (w : List Float) where

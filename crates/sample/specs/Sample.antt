@@ -6,15 +6,14 @@ use Rattle.std.specs.Float.Ieee.{add, sub, mul, div, lt}
 use Rattle.float.specs.Float.{max_of, zero as +0}
 use Rattle.counting.specs.Sums.{raised}
 use Rattle.string.specs.declared.StringDesign.{StringDesign}
-use Rattle.string.specs.Table.{table_strings}
 use Rattle.points.specs.declared.Constants.{Constants}
 use Rattle.points.specs.declared.Flight.{Flight}
 use Rattle.points.specs.declared.ForceSum.{ForceSum}
 use Rattle.strings.specs.Strings.{AllFit, cells_of, reads_all, v_ins, filtered_all, points_all, point_force, no_force, nuts_all, bridge_all, bridge_force}
 use Rattle.keys.specs.declared.KeyConstants.{KeyConstants}
-use Rattle.keys.specs.Keys.{keys_of, dampers, bridge_speeds}
+use Rattle.keys.specs.Keys.{dampers, bridge_speeds}
 use Rattle.sample.specs.declared.Motion.{Motion}
-use Rattle.sample.specs.declared.Setup.{Setup}
+use Rattle.sample.specs.declared.Tables.{Tables}
 use Rattle.sample.specs.declared.Sampled.{Sampled}
 
 -- what a sample is computed with: the instrument's constants, its keys and its strings
@@ -23,19 +22,15 @@ pub record Model : Type 0 where
   pub keys : List KeyConstants
   pub strings : List StringDesign
 
-abbrev pub model_at : Setup → List Float → List ℕ → List Float → Model
-model_at setup table lengths coefficients = record {
-  constants = setup.constants;
-  keys = keys_of table setup.keys;
-  strings = table_strings lengths coefficients setup.strings;
-}
+abbrev pub model_at : Tables → Model
+model_at tables = record { constants = tables.constants; keys = tables.keys.now; strings = tables.designs.now }
 
--- the tables hold strings that can sound, and the part w and the scratch v have cells for them
-pub record Ready (setup : Setup) (lengths : List ℕ) (coefficients w v : List Float) : Type 0 where
-  pub fit : AllFit lengths coefficients setup.strings
-  pub keys : setup.keys ≤ 16
-  pub cells : cells_of (table_strings lengths coefficients setup.strings) ≤ length w
-  pub scratch : setup.strings ≤ length v
+-- the strings can sound, and the part w and the scratch v have cells for them
+pub record Ready (m : Model) (w v : List Float) : Type 0 where
+  pub fit : AllFit m.strings
+  pub keys : length m.keys ≤ 16
+  pub cells : cells_of m.strings ≤ length w
+  pub scratch : length m.strings ≤ length v
 
 -- the bridge's part of a sample: the cells w come to w', and r is the force on the bridge
 pub record Bridged (m : Model) (t : ℕ) (v w w' : List Float) (r : Float) : Type 0 where

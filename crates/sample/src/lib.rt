@@ -6,7 +6,9 @@ ghost use Rattle.strings.specs.Strings.{Indexed};
 ghost use Rattle.sample.specs.Sample.{Ready, Bridged, CanCount, model_at, sampled, step_of, hammer_after, moved, counted_for};
 
 use float::max;
+use keys::KeyConstants;
 use points::{Constants, Flight, ForceSum};
+use string::{Indices, StringDesign};
 
 // The hammer, if one flies, and the greatest force that it met.
 #[derive(Clone, Copy)]
@@ -15,12 +17,12 @@ pub struct Motion {
     pub peak_force: f64,
 }
 
-// The numbers of an instrument that are no table, with how many keys and strings it has.
+// What the samples are computed with: an instrument's constants, its keys' and its strings'.
 #[derive(Clone, Copy)]
-pub struct Setup {
+pub struct Tables<'a> {
     pub constants: Constants,
-    pub keys: usize,
-    pub strings: usize,
+    pub keys: &'a [KeyConstants],
+    pub designs: &'a [StringDesign],
 }
 
 // What a sample gives: the hammer after it, the output, the force that it pushes, if a hammer flew, and whether that hammer was in contact.
@@ -33,45 +35,28 @@ pub struct Sampled {
 }
 
 // The bridge: each key's sum, the weighted total, each key's speed, and the strings' ends.
-fn bridge(
-    part: &mut [f64],
-    v_in: &[f64],
-    table: &[f64; 64],
-    lengths: &[usize; 160],
-    coefficients: &[f64; 128],
-    indices: &[usize; 96],
-    setup: Setup,
-    t: u64,
-) -> f64
-    requires ready { Ready setup lengths.now coefficients.now part.old v_in.now }
-    requires indexed { Indexed lengths.now coefficients.now indices.now setup.strings t }
-    ensures { Bridged (model_at setup table.now lengths.now coefficients.now) t v_in.now part.old part.new result }
+fn bridge(part: &mut [f64], v_in: &[f64], tables: Tables<'_>, indices: &[Indices], t: u64) -> f64
+    requires ready { Ready (model_at tables) part.old v_in.now }
+    requires indexed { Indexed tables.designs.now indices.now t }
+    ensures { Bridged (model_at tables.entry) t v_in.now part.old part.new result }
 {
-    let c = setup.constants;
+    let Tables {
+        constants,
+        keys,
+        designs,
+    } = tables;
     let mut v_b = [0.0; 16];
-    keys::sum_keys(v_in, &mut v_b, lengths, coefficients, setup.strings);
-    let total = keys::weighted_total(table, &v_b, setup.keys);
-    keys::bridge_speeds(table, c.yz, total, &mut v_b, setup.keys);
-    strings::bridge_strings(
-        part,
-        v_in,
-        &v_b,
-        lengths,
-        coefficients,
-        indices,
-        c.z,
-        setup.strings,
-        t,
-    )
+    keys::sum_keys(v_in, designs, &mut v_b);
+    let total = keys::weighted_total(keys, &v_b);
+    keys::bridge_speeds(keys, constants.yz, total, &mut v_b);
+    strings::bridge_strings(part, v_in, &v_b, designs, indices, constants.z, t)
 }
 
 // A hammer that flies back with no string in contact is gone.
 fn hammer_after(any_contact: bool, h: Flight) -> Option<Flight>
     ensures { result ≡ hammer_after any_contact h }
 {
-    if any_contact {
-        Some(h)
-    } else if h.v_h < 0.0 {
+    if !any_contact && h.v_h < 0.0 {
         None
     } else {
         Some(h)
@@ -105,59 +90,32 @@ pub fn sample(
     scratch: &mut [f64],
     damper_r: &mut [f64; 16],
     down: &[bool; 16],
-    table: &[f64; 64],
-    lengths: &[usize; 160],
-    coefficients: &[f64; 128],
-    indices: &[usize; 96],
-    setup: Setup,
+    tables: Tables<'_>,
+    indices: &[Indices],
     motion: Motion,
     t: u64,
 ) -> Sampled
-    requires ready { Ready setup lengths.now coefficients.now part.old scratch.old }
-    requires indexed { Indexed lengths.now coefficients.now indices.now setup.strings t }
+    requires ready { Ready (model_at tables) part.old scratch.old }
+    requires indexed { Indexed tables.designs.now indices.now t }
     ensures { step_of result damper_r.new part.new
-        ≡ sampled (model_at setup table.now lengths.now coefficients.now) (λ k. get_or down.now k false)
-        t damper_r.old motion part.old }
+        ≡ sampled (model_at tables.entry) (λ k. get_or down.now k false) t damper_r.old motion part.old }
 {
-    let c = setup.constants;
-    let h = motion.hammer;
-    keys::move_dampers(table, down, damper_r, setup.keys);
-    rows::filter_strings(
-        part,
-        scratch,
-        lengths,
-        coefficients,
-        indices,
-        setup.strings,
-        t,
-    );
-    let f = strings::strike_strings(
-        part,
-        c,
-        h,
-        damper_r,
-        lengths,
-        coefficients,
-        indices,
-        setup.strings,
-        t,
-    );
-    let after = move_hammer(c, motion, f);
-    let out = bridge(
-        part,
-        scratch,
-        table,
-        lengths,
-        coefficients,
-        indices,
-        setup,
-        t,
-    );
+    let Tables {
+        constants,
+        keys,
+        designs,
+    } = tables;
+    let hammer = motion.hammer;
+    keys::move_dampers(keys, down, damper_r);
+    rows::filter_strings(part, scratch, designs, indices, t);
+    let f = strings::strike_strings(part, constants, hammer, damper_r, designs, indices, t);
+    let after = move_hammer(constants, motion, f);
+    let out = bridge(part, scratch, tables, indices, t);
     Sampled {
         motion: after,
         out,
-        force: h.map(|_| f.force_sum),
-        contact: h.is_some() & f.any_contact,
+        force: hammer.map(|_| f.force_sum),
+        contact: hammer.is_some() & f.any_contact,
     }
 }
 
@@ -167,9 +125,9 @@ pub fn count_contact(contact_samples: &mut [u64; 16], h: Option<Flight>, contact
     requires { CanCount contact_samples.old h }
     ensures { contact_samples.new ≡ counted_for h contact contact_samples.old }
 {
-    if let Some(h) = h {
-        if contact {
-            contact_samples[h.key_index] += 1;
-        }
+    if let Some(h) = h
+        && contact
+    {
+        contact_samples[h.key_index] += 1;
     }
 }

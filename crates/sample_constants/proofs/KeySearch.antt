@@ -1,7 +1,13 @@
 -- The search for the key that a string belongs to, turn by turn: what is left to search gives what the whole search gives.
 use Rattle.std.proofs.Common.{◌≡◌, ℕ, suc, ◌+◌, ◌-◌, ◌<◌, ◌≤◌, sym, ap, ◌∙◌, arith, le-ltb, lt-ltb}
 use native.Mathlib.Nat.{sub-zero}
-use Rattle.sample_constants.specs.Model.{owner_of}
+use lib.ListN.{length, take, length-take}
+use lib.Seq.{get_or-take}
+use Rattle.instrument_fields.specs.declared.KeyDesign.{KeyDesign}
+use Rattle.instrument.specs.declared.Instrument.{Instrument}
+use Rattle.instrument.specs.Valid.{past_key, key_at}
+use Rattle.sample_constants.specs.Model.{owner_of, owner_in}
+use Rattle.sample_constants.specs.Laws.{owner_same}
 
 -- the search for string j's key, at key k with j' strings left to pass
 module _ (count : ℕ → ℕ) (n j : ℕ) where
@@ -32,3 +38,12 @@ module _ (count : ℕ → ℕ) (n j : ℕ) where
       let z : n - k ≡ 0 = omega arith in
       let q : owner_of count k (n - k) j' ≡ 0 = rw z in
       sym q ∙ p.rest
+
+-- the keys that are lent, those in use, are searched as the record's are
+pub owner_lent : (i : Instrument) (j : ℕ) → length i.keys ≡ 16 → i.key_count ≤ 16
+    → owner_of (λ k. (key_at (take i.key_count i.keys) k).strings) 0 (length (take i.key_count i.keys)) j ≡ owner_in i j
+owner_lent i j long few =
+    let n : length (take i.key_count i.keys) ≡ i.key_count = simp length-take (omega (arith, long)) in
+    rw n
+    (owner_same (λ k. (key_at (take i.key_count i.keys) k).strings) (λ k. (key_at i.keys k).strings) 0 i.key_count j
+    (λ k h. ap (λ (key : KeyDesign). key.strings) (get_or-take i.key_count i.keys k past_key (omega (arith, h)))))

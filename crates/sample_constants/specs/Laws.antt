@@ -1,16 +1,21 @@
 -- An instrument's strings can sound: each has a cell in every line, by the cuts' clamps, and is of a key that is there; filled tables are the model.
-use Rattle.std.specs.Prelude.{◌≡◌, ℕ, zero, suc, ◌+◌, ◌-◌, ◌<◌, ◌≤◌, Bool, true, false, cond, List, nat_lt, refl, Float}
-use Rattle.std.proofs.Common.{arith}
+use Rattle.std.specs.Prelude.{◌≡◌, ℕ, zero, suc, ◌+◌, ◌-◌, ◌<◌, ◌≤◌, Bool, true, false, cond, List, nat_lt, refl, length, take}
+use Rattle.std.proofs.Common.{◌∙◌, arith, zero-add}
 use Rattle.cuts.specs.Laws.{cuts_sum}
-use Rattle.cells.specs.Numbered.{list_same}
+use lib.ListN.{length-take}
+use lib.Seq.{get_or-take}
+use Rattle.cells.specs.Numbered.{list_from, list_length, list_at}
 use Rattle.instrument.specs.declared.Instrument.{Instrument}
 use Rattle.instrument.specs.Valid as valid
 use Rattle.string.specs.String.{HasLines}
-use Rattle.string.specs.Table.{design_at, table_strings}
+use Rattle.string.specs.declared.StringDesign.{StringDesign}
+use Rattle.string.specs.Table.{past_design, design_at, list_is}
 use Rattle.strings.specs.Strings.{Keyed, AllFit}
-use Rattle.keys.specs.Keys.{constants_at}
-use Rattle.sample.specs.Sample.{model_at}
-use Rattle.sample_constants.specs.Model.{setup_of, owner_of, owner_in, string_of, string_in, key_in, strings_of, model_of, KeysFilled, StringsFilled}
+use Rattle.keys.specs.declared.KeyConstants.{KeyConstants}
+use Rattle.keys.specs.Keys.{past_constants}
+use Rattle.points.specs.declared.Constants.{Constants}
+use Rattle.sample.specs.Sample.{Model}
+use Rattle.sample_constants.specs.Model.{constants_of, owner_of, owner_in, string_of, string_in, key_in, strings_of, model_of, KeysFilled, StringsFilled}
 
 -- the search for a string's key ends at one of the keys, or at 0
 owner_below : (count : ℕ → ℕ) (k n j m : ℕ) → 0 < m → k + n ≤ m → owner_of count k n j < m
@@ -43,19 +48,30 @@ string_key : (i : Instrument) (j : ℕ) → (string_in i j).key ≡ owner_in i j
 unfolding string_in string_of
 string_key i j = refl
 
--- filled tables hold strings that can sound
-module _ (i : Instrument) (lengths : List ℕ) (coefficients : List Float) (few : i.key_count ≤ 16) (f : StringsFilled i lengths coefficients) where
-  pub filled_fit : i.string_count ≤ 32 → AllFit lengths coefficients i.string_count
-  filled_fit most = record {
-    few = most;
-    each = λ j h. rw (f.each j h) (let r : Keyed (string_in i j) = record { sound = string_sound i j; key = rw (string_key i j) (owner_fits i j few) } in r);
-  }
+-- the strings of an instrument can sound
+pub strings_fit : (i : Instrument) → i.key_count ≤ 16 → i.string_count ≤ 32 → AllFit (strings_of i)
+strings_fit i few most = record { few = rw (list_length (string_in i) 0 i.string_count) most; each = each }
+  where
+    each : (j : ℕ) → j < length (strings_of i) → Keyed (design_at (strings_of i) j)
+    each j h =
+        let below : j < i.string_count = rw (list_length (string_in i) 0 i.string_count) at h in
+        let r : Keyed (string_in i j) = record { sound = string_sound i j; key = rw (string_key i j) (owner_fits i j few) } in
+        rw (list_at (string_in i) 0 i.string_count j past_design below, zero-add j) r
 
-  -- and are the instrument's strings
-  pub filled_strings : table_strings lengths coefficients i.string_count ≡ strings_of i
-  filled_strings = list_same (design_at lengths coefficients) (string_in i) 0 i.string_count (λ k h. f.each k (omega arith))
+-- a filled table has the instrument's strings in front
+pub filled_strings : (i : Instrument) (designs : List StringDesign) → length designs ≡ 32 → i.string_count ≤ 32 → StringsFilled i designs → take i.string_count designs ≡ strings_of i
+filled_strings i designs long most f =
+    list_is (string_in i) i.string_count (take i.string_count designs) past_design (simp length-take (omega (arith, long)))
+    (λ k h. get_or-take i.string_count designs k past_design h ∙ f.each k h)
 
-  -- filled tables are the model
-  pub filled_model : (table : List Float) → KeysFilled i table → model_at (setup_of i) table lengths coefficients ≡ model_of i
-  unfolding setup_of
-  filled_model table g = rw (list_same (constants_at table) (key_in i) 0 i.key_count (λ k h. g.each k (omega arith)), filled_strings)
+-- and of keys, the keys
+pub filled_keys : (i : Instrument) (keys : List KeyConstants) → length keys ≡ 16 → i.key_count ≤ 16 → KeysFilled i keys → take i.key_count keys ≡ list_from (key_in i) 0 i.key_count
+filled_keys i keys long most f =
+    list_is (key_in i) i.key_count (take i.key_count keys) past_constants (simp length-take (omega (arith, long)))
+    (λ k h. get_or-take i.key_count keys k past_constants h ∙ f.each k h)
+
+-- so filled tables are the model
+module _ (i : Instrument) {constants : Constants} {keys : List KeyConstants} {designs : List StringDesign} (few : i.key_count ≤ 16) (most : i.string_count ≤ 32) where
+  pub filled_model : constants ≡ constants_of i.common → length keys ≡ 16 → KeysFilled i keys → length designs ≡ 32 → StringsFilled i designs
+      → ◌≡◌ {A = Model} (record { constants = constants; keys = take i.key_count keys; strings = take i.string_count designs }) (model_of i)
+  filled_model e long k wide d = rw (e, filled_keys i keys long few k, filled_strings i designs wide most d)

@@ -1,6 +1,6 @@
 -- What document 01's rules compute from the instrument's record, in the Rust's order of operations: `dt`, `2.0 * z`, `r_base`, `ramp` and the like of
 -- `render`, the cuts of `StringWg::new`, and the key that a string belongs to (`key_of_offset`). Definitions only.
-use Rattle.std.specs.Prelude.{◌≡◌, ℕ, zero, suc, ◌+◌, ◌-◌, ◌<◌, cond, List, pos, nat_lt, slice_index, Float}
+use Rattle.std.specs.Prelude.{◌≡◌, ℕ, zero, suc, ◌+◌, ◌-◌, ◌<◌, cond, List, pos, nat_lt, Float}
 use Rattle.std.specs.Float.{binary64}
 use Rattle.std.specs.Float.Ieee.{add, mul, div, of_int}
 use Rattle.float.specs.Float.{min_of, max_of, one, two}
@@ -16,15 +16,11 @@ use Rattle.string.specs.Table.{design_at}
 use Rattle.points.specs.declared.Constants.{Constants}
 use Rattle.keys.specs.declared.KeyConstants.{KeyConstants}
 use Rattle.keys.specs.Keys.{constants_at}
-use Rattle.sample.specs.declared.Setup.{Setup}
 use Rattle.sample.specs.Sample.{Model}
 
 -- dt = 1 / fs, and 2 z
 unfoldable pub constants_of : Common → Constants
 constants_of c = record { dt = div binary64 one c.fs; z = c.z; two_z = mul binary64 two c.z; yz = c.yz; hammer = c.hammer }
-
-unfoldable pub setup_of : Instrument → Setup
-setup_of i = record { constants = constants_of i.common; keys = i.key_count; strings = i.string_count }
 
 -- r_base = rho 2 z, ramp = max(ramp_s fs, 1), r_max = min(r_base damper_scale, 2 z), and 1 + yz n for n strings
 unfoldable pub key_constants : Common → KeyDesign → KeyConstants
@@ -75,11 +71,8 @@ abbrev pub model_of : Instrument → Model
 model_of i = record { constants = constants_of i.common; keys = list_from (key_in i) 0 i.key_count; strings = strings_of i }
 
 -- what the tables hold
-pub record Counted (i : Instrument) (counts : List ℕ) : Type 0 where
-  pub each : (k : ℕ) → k < i.key_count → slice_index counts k ≡ (valid.key_at i.keys k).strings
+pub record KeysFilled (i : Instrument) (keys : List KeyConstants) : Type 0 where
+  pub each : (k : ℕ) → k < i.key_count → constants_at keys k ≡ key_in i k
 
-pub record KeysFilled (i : Instrument) (table : List Float) : Type 0 where
-  pub each : (k : ℕ) → k < i.key_count → constants_at table k ≡ key_in i k
-
-pub record StringsFilled (i : Instrument) (lengths : List ℕ) (coefficients : List Float) : Type 0 where
-  pub each : (j : ℕ) → j < i.string_count → design_at lengths coefficients j ≡ string_in i j
+pub record StringsFilled (i : Instrument) (designs : List StringDesign) : Type 0 where
+  pub each : (j : ℕ) → j < i.string_count → design_at designs j ≡ string_in i j

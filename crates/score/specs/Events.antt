@@ -7,7 +7,6 @@ use Rattle.instrument.specs.Valid.{key_at}
 use Rattle.instrument.specs.KeyIndex.{key_place}
 use Rattle.string.specs.declared.StringDesign.{StringDesign}
 use Rattle.string.specs.String.{size_of, at_yS, at_memory}
-use Rattle.string.specs.Table.{table_strings}
 use Rattle.strings.specs.Strings.{cells_of}
 use Rattle.score.specs.declared.Event.{Event}
 use Rattle.score.specs.declared.Event.TheVariants.{NoteOn, NoteOff, Pedal, HandDamp}
@@ -73,11 +72,11 @@ pedal_to b p = record {
 abbrev pub on_key : Instrument → ℕ → (ℕ → State → State) → State → State
 on_key i x f s = unwrap_or (option_map (λ k. f k s) (key_place i x)) s
 
--- tables of at most 32 strings, with cells for them, and at most 16 keys
-pub record Playable (i : Instrument) (lengths : List ℕ) (coefficients : List Float) (n : ℕ) (w : List Float) : Type 0 where
+-- at most 32 strings, with cells for them, and at most 16 keys
+pub record Playable (i : Instrument) (designs : List StringDesign) (w : List Float) : Type 0 where
   pub keys : i.key_count ≤ 16
-  pub few : n ≤ 32
-  pub cells : cells_of (table_strings lengths coefficients n) ≤ length w
+  pub few : length designs ≤ 32
+  pub cells : cells_of designs ≤ length w
 
 -- one event, on an instrument of the strings ds
 unfoldable pub applied : Instrument → List StringDesign → Event → State → State

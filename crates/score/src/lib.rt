@@ -3,7 +3,6 @@
 
 ghost use Rattle.std.specs.Prelude.{◌≡◌, false, ℕ, ◌≤◌, ◌<◌, length, get_or};
 ghost use Rattle.string.specs.String.{size_of};
-ghost use Rattle.string.specs.Table.{table_strings};
 ghost use Rattle.strings.specs.Strings.{cells_of};
 ghost use Rattle.score.specs.Events.{State, is_down, AllDown, cleared, cleared_all, struck_key, held_to, hand_damped, pedal_to, Playable, applied, apply_all};
 ghost use Rattle.score.specs.Score.{events_at, next_from};
@@ -12,7 +11,7 @@ ghost use Rattle.score.specs.Contacts.{Totals};
 use instrument::{Instrument, key_index};
 use points::Flight;
 use sample::Motion;
-use string::StringDesign;
+use string::{Layout, StringDesign};
 
 #[derive(Clone, Copy)]
 pub enum Event {
@@ -28,7 +27,7 @@ pub struct TimedEvent {
     pub event: Event,
 }
 
-// The first `count` events, in their order.
+// The first `count` events, in their order. An array with its count, since nothing here may allocate.
 #[derive(Clone, Copy)]
 pub struct Score {
     pub events: [TimedEvent; 64],
@@ -47,35 +46,28 @@ pub struct Piano {
 }
 
 // A string of key k forgets its contact.
+#[tactic(auto, unfolding(crate::specs::Events::cleared))]
 fn clear_string(part: &mut [f64], d: StringDesign, k: usize)
     requires { length part.old ≡ size_of d }
     ensures { part.new ≡ cleared k d part.old }
 {
     if d.key == k {
-        let y = string::at_y_s(d);
-        let m = string::at_memory(d);
-        part[y] = 0.0;
-        part[m] = 0.0;
+        let Layout { y_s, memory, .. } = d.layout();
+        part[y_s] = 0.0;
+        part[memory] = 0.0;
     }
 }
 
-fn clear_strings(
-    part: &mut [f64],
-    lengths: &[usize; 160],
-    coefficients: &[f64; 128],
-    n: usize,
-    k: usize,
-)
-    requires n_bound { n ≤ 32 }
-    requires n_in_bounds { cells_of (table_strings lengths.now coefficients.now n) ≤ length part.old }
-    ensures { part.new ≡ cleared_all k (table_strings lengths.now coefficients.now n) part.old }
+#[tactic(auto, using(strings::specs::Walk::at_fits))]
+fn clear_strings(part: &mut [f64], designs: &[StringDesign], k: usize)
+    requires { cells_of designs.now ≤ length part.old }
+    ensures { part.new ≡ cleared_all k designs.now part.old }
 {
-    let mut at = 0usize;
-    for i in 0..n {
-        let d = string::design_at(lengths, coefficients, i);
-        let e = at + string::size(d);
-        clear_string(&mut part[at..e], d, k);
-        at = e;
+    let mut at = 0;
+    for d in designs {
+        let end = at + d.layout().size;
+        clear_string(&mut part[at..end], *d, k);
+        at = end;
     }
 }
 
@@ -125,56 +117,50 @@ fn move_pedal(mut piano: Piano, down: bool) -> Piano
 #[tactic(auto, unfolding(crate::specs::Events::applied))]
 fn apply(
     part: &mut [f64],
-    lengths: &[usize; 160],
-    coefficients: &[f64; 128],
-    n: usize,
+    designs: &[StringDesign],
     instrument: Instrument,
     piano: Piano,
     event: Event,
 ) -> Piano
-    requires { Playable instrument lengths.now coefficients.now n part.old }
+    requires { Playable instrument designs.now part.old }
     ensures { record { piano = result; cells = part.new }
-        ≡ applied instrument (table_strings lengths.now coefficients.now n) event (record { piano = piano; cells = part.old }) }
+        ≡ applied instrument designs.now event (record { piano = piano; cells = part.old }) }
 {
     match event {
         Event::NoteOn { key, velocity } => match key_index(instrument, key) {
             Some(k) => {
-                clear_strings(part, lengths, coefficients, n, k);
+                clear_strings(part, designs, k);
                 strike_key(piano, k, velocity)
             }
             None => piano,
         },
-        Event::NoteOff { key } => match key_index(instrument, key) {
-            Some(k) => release_key(piano, k),
-            None => piano,
-        },
+        Event::NoteOff { key } => {
+            key_index(instrument, key).map_or(piano, |k| release_key(piano, k))
+        }
         Event::Pedal(down) => move_pedal(piano, down),
-        Event::HandDamp { key } => match key_index(instrument, key) {
-            Some(k) => hand_damp_key(piano, k),
-            None => piano,
-        },
+        Event::HandDamp { key } => {
+            key_index(instrument, key).map_or(piano, |k| hand_damp_key(piano, k))
+        }
     }
 }
 
 // The events at t, in the score's order.
 pub fn apply_events(
     part: &mut [f64],
-    lengths: &[usize; 160],
-    coefficients: &[f64; 128],
-    n: usize,
+    designs: &[StringDesign],
     instrument: Instrument,
     events: &[TimedEvent],
     piano: Piano,
     t: u64,
 ) -> Piano
-    requires { Playable instrument lengths.now coefficients.now n part.old }
+    requires { Playable instrument designs.now part.old }
     ensures { record { piano = result; cells = part.new }
-        ≡ apply_all instrument (table_strings lengths.now coefficients.now n) (events_at events.now t) (record { piano = piano; cells = part.old }) }
+        ≡ apply_all instrument designs.now (events_at events.now t) (record { piano = piano; cells = part.old }) }
 {
     let mut p = piano;
     for e in events {
         if e.position == t {
-            p = apply(part, lengths, coefficients, n, instrument, p, e.event);
+            p = apply(part, designs, instrument, p, e.event);
         }
     }
     p
@@ -197,7 +183,7 @@ pub fn dampers_down(instrument: Instrument, piano: Piano) -> [bool; 16]
     ensures { AllDown instrument piano result }
 {
     std::array::from_fn(|k| {
-        instrument.keys[k].has_damper & (piano.hand_damped[k] | !(piano.held[k] | piano.pedal))
+        instrument.keys[k].has_damper && (piano.hand_damped[k] || !(piano.held[k] || piano.pedal))
     })
 }
 

@@ -46,7 +46,8 @@ event_placed l n k e later fits few low p q =
     let c : take (n - k) (drop k (take n l)) ≡ drop k (take n l) = take_all (n - k) (drop k (take n l)) (omega (arith, long)) in
     let d : drop (k + 1 + (n - k)) (set l k e) ≡ drop (n + 1) l = ap (λ m. drop m (set l k e)) a ∙ drop-set-lt (n + 1) l k e (omega arith) in
     let f : take k l ++ e ∷ drop k (take n l) ≡ placed (take n l) e =
-    ap (λ x. x ++ e ∷ drop k (take n l)) (sym (take-take k n l low)) ∙ ap (λ x. take x (take n l) ++ e ∷ drop x (take n l)) p ∙ sym (placed_split (take n l) e) in
+    ap (λ x. x ++ e ∷ drop k (take n l)) (sym (take-take k n l low)) ∙ ap (λ x. take x (take n l) ++ e ∷ drop x (take n l)) p
+    ∙ sym (placed_split (take n l) e) in
     put_mid-paste (k + 1) (n + 1 - (k + 1)) (set l k e) later (drop k (take n l)) (n - k) (q ∙ sym (drop_take l k n low (omega arith))) (omega arith) long
     ∙ rw (b, c, d) (ap (λ x. x ++ drop (n + 1) l) (append_snoc (take k l) e (drop k (take n l)) ∙ f))
 

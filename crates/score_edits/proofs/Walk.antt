@@ -46,7 +46,8 @@ swap false b c d = refl
 after_is : (x : TimedEvent) (l : List TimedEvent) → (in_order x l && list_all sound_event l) ≡ sound_after x l
 unfolding sound_after_to
 after_is x [] = refl
-after_is x (y ∷ ys) = swap (may_precede x y) (sound_event y) (in_order y ys) (list_all sound_event ys) ∙ ap (λ b. (may_precede x y && sound_event y) && b) (after_is y ys)
+after_is x (y ∷ ys) = swap (may_precede x y) (sound_event y) (in_order y ys) (list_all sound_event ys)
+    ∙ ap (λ b. (may_precede x y && sound_event y) && b) (after_is y ys)
 
 turn : (a b c : Bool) → (a && (b && c)) ≡ (b && (a && c))
 turn true true c = refl

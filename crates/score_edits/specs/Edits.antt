@@ -1,6 +1,6 @@
--- Document 02, W1: "Insert now goes after all events of earlier position and after those of its position and same or earlier kind"; "A session record whose events break this order
--- falls under 7." Document 01, "The session": remove takes "the event at an index from 0, of position q"; refusals 7 and 13: "a position that falls or is above that end, a velocity
--- of 13". Definitions only: assumes nothing.
+-- Document 02, W1: "Insert now goes after all events of earlier position and after those of its position and same or earlier kind"; "A
+-- session record whose events break this order falls under 7." Document 01, "The session": remove takes "the event at an index from 0, of
+-- position q"; refusals 7 and 13: "a position that falls or is above that end, a velocity of 13". Definitions only: assumes nothing.
 use Rattle.std.specs.Prelude.{Bool, true, cond, ◌&&◌, List, [], ◌∷◌, ℕ, zero, suc, ◌≤◌, eqb, leb, ltb, Float, pos}
 use Rattle.std.specs.Float.Ieee.{le, neg, of_int}
 use Rattle.std.specs.Float.{binary64}

@@ -1,5 +1,6 @@
--- Laws of a score: an edit keeps it sound, and leaves the events before its position alone; an event is placed after all that may precede it, and what the order tells apart may be
--- added in any order; of a sound score, the events at t are those that document 01's walk applies there, and their ranks rise. Assumes nothing.
+-- Laws of a score: an edit keeps it sound, and leaves the events before its position alone; an event is placed after all that may precede
+-- it, and what the order tells apart may be added in any order; of a sound score, the events at t are those that document 01's walk applies
+-- there, and their ranks rise. Assumes nothing.
 use Rattle.std.specs.Prelude.{◌≡◌, refl, Bool, true, false, cond, ◌&&◌, List, [], ◌∷◌, ℕ, zero, suc, ◌≤◌, ◌<◌, leb, eqb, ltb, length, get_or}
 use Rattle.std.proofs.Common.{sym, ap, arith, le-leb, ne_eqb, leb-true, leb-false, ltb-true, ltb-false, eqb-true}
 use Rattle.std.proofs.lemmas.Bool.{eqb-false}
@@ -8,7 +9,8 @@ use Rattle.score.specs.Score.{events_at}
 use Rattle.score.specs.Due.{due, left_at, Rising, walk_is}
 use Rattle.positions.specs.Positions.{end}
 use Rattle.positions.specs.Laws.{and_true, and_both, true_or_false}
-use Rattle.score_edits.specs.Edits.{rank_of, may_precede, RisingRanks, placed, place_of, removed, sound_event, sound_event_to, sound_velocity, sound_after, sound_after_to, sound_score, sound_score_to}
+use Rattle.score_edits.specs.Edits.{rank_of, may_precede, RisingRanks, placed, place_of, removed, sound_event, sound_event_to, sound_velocity}
+use Rattle.score_edits.specs.Edits.{sound_after, sound_after_to, sound_score, sound_score_to}
 
 -- ---- the order
 
@@ -66,7 +68,8 @@ precede_both x y z e f =
 
 -- ---- lengths
 
-length_if : (b : Bool) (x e : TimedEvent) (xs ys : List TimedEvent) → length ys ≡ suc (length xs) → length (cond b (x ∷ ys) (e ∷ x ∷ xs)) ≡ suc (suc (length xs))
+length_if : (b : Bool) (x e : TimedEvent) (xs ys : List TimedEvent) → length ys ≡ suc (length xs)
+    → length (cond b (x ∷ ys) (e ∷ x ∷ xs)) ≡ suc (suc (length xs))
 length_if true x e xs ys h = ap suc h
 length_if false x e xs ys h = refl
 
@@ -84,7 +87,8 @@ length_removed (x ∷ xs) (suc k) h = ap suc (length_removed xs k (omega arith))
 -- ---- soundness
 
 -- the parts of a passed test
-after_parts : (x y : TimedEvent) (ys : List TimedEvent) → sound_after x (y ∷ ys) ≡ true → (may_precede x y ≡ true) × (sound_event y ≡ true) × (sound_after y ys ≡ true)
+after_parts : (x y : TimedEvent) (ys : List TimedEvent) → sound_after x (y ∷ ys) ≡ true
+    → (may_precede x y ≡ true) × (sound_event y ≡ true) × (sound_after y ys ≡ true)
 unfolding sound_after_to
 after_parts x y ys e =
     let a = and_true (may_precede x y && sound_event y) (sound_after y ys) e in
@@ -119,7 +123,8 @@ unfolding sound_after_to
 after_skip x y [] a e = refl
 after_skip x y (z ∷ zs) a e = let p = after_parts y z zs e in after_make x z zs (precede_both x y z a p.0) p.1 p.2
 
-after_placed : (x : TimedEvent) (l : List TimedEvent) (e : TimedEvent) → may_precede x e ≡ true → sound_event e ≡ true → sound_after x l ≡ true → sound_after x (placed l e) ≡ true
+after_placed : (x : TimedEvent) (l : List TimedEvent) (e : TimedEvent) → may_precede x e ≡ true → sound_event e ≡ true → sound_after x l ≡ true
+    → sound_after x (placed l e) ≡ true
 unfolding placed
 after_placed x [] e a s h = after_make x e [] a s (after_none e)
 after_placed x (y ∷ ys) e a s h = let p = after_parts x y ys h in go (may_precede y e) refl p (λ b. after_placed y ys e b s p.2)
@@ -166,8 +171,8 @@ after_all x [] k d e h = absurd (omega arith)
 after_all x (y ∷ ys) zero d e h = (after_parts x y ys e).0
 after_all x (y ∷ ys) (suc k) d e h = let p = after_parts x y ys e in precede_both x y (get_or ys k d) p.0 (after_all y ys k d p.2 (omega arith))
 
--- In a sound score an event's place divides those that may precede it from all others: it goes after all events of earlier position and after those of its position and same or earlier
--- kind, and ahead of the rest.
+-- In a sound score an event's place divides those that may precede it from all others: it goes after all events of earlier position and
+-- after those of its position and same or earlier kind, and ahead of the rest.
 pub place_divides : (l : List TimedEvent) (e : TimedEvent) (k : ℕ) (d : TimedEvent) → sound_score l ≡ true → k < length l
     → (k < place_of l e → may_precede (get_or l k d) e ≡ true) × (place_of l e ≤ k → may_precede (get_or l k d) e ≡ false)
 unfolding place_of
@@ -188,8 +193,10 @@ place_divides (x ∷ xs) e (suc k) d s h =
     none_behind false g r f = refl
 
     by_test : (b : Bool) → may_precede x e ≡ b
-        → (k < place_of xs e → may_precede (get_or xs k d) e ≡ true) × (place_of xs e ≤ k → may_precede (get_or xs k d) e ≡ false) → may_precede x (get_or xs k d) ≡ true
-        → (suc k < cond b (suc (place_of xs e)) 0 → may_precede (get_or xs k d) e ≡ true) × (cond b (suc (place_of xs e)) 0 ≤ suc k → may_precede (get_or xs k d) e ≡ false)
+        → (k < place_of xs e → may_precede (get_or xs k d) e ≡ true) × (place_of xs e ≤ k → may_precede (get_or xs k d) e ≡ false)
+        → may_precede x (get_or xs k d) ≡ true
+        → (suc k < cond b (suc (place_of xs e)) 0 → may_precede (get_or xs k d) e ≡ true)
+        × (cond b (suc (place_of xs e)) 0 ≤ suc k → may_precede (get_or xs k d) e ≡ false)
     by_test true f rest r = (λ q. rest.0 (omega arith), λ q. rest.1 (omega arith))
     by_test false f rest r = (λ q. absurd (omega arith), λ q. none_behind (may_precede (get_or xs k d) e) refl r f)
 
@@ -219,7 +226,8 @@ unfolding placed events_at
 placed_before [] e k h = rw (ne_eqb e.position k (λ z. omega arith))
 placed_before (x ∷ xs) e k h = sym (placed_if (may_precede x e) k x e xs (placed xs e) (ne_eqb e.position k (λ z. omega arith)) (sym (placed_before xs e k h)))
 
-pub removed_before : (l : List TimedEvent) (n : ℕ) (d : TimedEvent) (k : ℕ) → n < length l → k < (get_or l n d).position → events_at l k ≡ events_at (removed l n) k
+pub removed_before : (l : List TimedEvent) (n : ℕ) (d : TimedEvent) (k : ℕ) → n < length l → k < (get_or l n d).position
+    → events_at l k ≡ events_at (removed l n) k
 unfolding removed events_at
 removed_before [] n d k h g = refl
 removed_before (x ∷ xs) zero d k h g = rw (ne_eqb x.position k (λ z. omega arith))
@@ -251,7 +259,8 @@ ranks_after x (y ∷ ys) t q e =
     let p = after_parts x y ys e in
     by_test (eqb y.position t) refl (λ h. ranks_after y ys t h p.2) (ranks_after x ys t q (after_skip x y ys p.0 p.2)) (precedes x y p.0).1
   where
-    by_test : (b : Bool) → eqb y.position t ≡ b → (y.position ≡ t → RisingRanks (rank_of y.event) (events_at ys t)) → RisingRanks (rank_of x.event) (events_at ys t)
+    by_test : (b : Bool) → eqb y.position t ≡ b → (y.position ≡ t → RisingRanks (rank_of y.event) (events_at ys t))
+        → RisingRanks (rank_of x.event) (events_at ys t)
         → (x.position ≡ y.position → rank_of x.event ≤ rank_of y.event) → RisingRanks (rank_of x.event) (cond b (y.event ∷ events_at ys t) (events_at ys t))
     by_test true h here past r = let same = eqb-true y.position t h in (r (omega (arith, q, same)), here same)
     by_test false h here past r = past

@@ -1,4 +1,5 @@
-// Document 01, "The session": a score is the first `count` of 64 timed events. Where insert puts an event, what remove leaves, and the score's part of refusal 7.
+// Document 01, "The session": a score is the first `count` of 64 timed events. Where insert puts an event, what remove leaves, and the
+// score's part of refusal 7.
 #![tactic(auto)]
 
 ghost use Rattle.std.specs.Prelude.{◌≡◌, ◌++◌, ◌+◌, ◌-◌, ◌≤◌, ◌<◌, take, drop, length};
@@ -23,6 +24,7 @@ fn rank_of(event: Event) -> u64
 }
 
 // Whether x may stand before y in a score. Positions are compared as they are: fields are open, and no sum of position and rank would fit.
+// It is no order of the events themselves, which would have to tell two strikes by their velocities.
 fn may_precede(x: &TimedEvent, y: &TimedEvent) -> bool
     ensures { result ≡ may_precede x.now y.now }
 {
@@ -60,7 +62,7 @@ fn place_of(score: &[TimedEvent], timed: &TimedEvent) -> usize
     score.iter().take_while(|x| may_precede(x, timed)).count()
 }
 
-// The events with one more; past the score nothing moves.
+// The events with one more; past the score nothing moves. The array comes with its count, since an edit writes past the count.
 pub fn place_event(events: [TimedEvent; 64], count: usize, timed: TimedEvent) -> [TimedEvent; 64]
     requires { count < 64 }
     ensures { result ≡ placed (take count events) timed ++ drop (count + 1) events }

@@ -1,6 +1,10 @@
--- What each call leaves to show once its tests have passed: that it may use the renderer or copy a part, and that what it gives is what it promises. Assumes nothing.
+-- What each call leaves to show once its tests have passed: that it may use the renderer or copy a part, and that what it gives is what it
+-- promises. Assumes nothing.
 use mathlib.Core.Path.{◌≡◌, refl, sym, ◌∙◌, ap}
-use mathlib.Core.Bool.{true, false}
+use mathlib.Core.Bool.{Bool, true, false}
+use Rattle.std.specs.Prelude.{Result, Ok, Option, Some, is_some, position}
+use Rattle.refusal.specs.declared.Refusal.{Refusal}
+use Rattle.refusal.specs.Refusal.{number_in}
 use mathlib.Core.Logic.{inr}
 use mathlib.Core.List.{List, ◌++◌, map, append-nil}
 use Prim.Native.Nat.{ℕ, ◌+◌, ◌-◌, ◌*◌, ◌<◌, ◌≤◌}
@@ -22,7 +26,6 @@ use Rattle.score.specs.declared.TimedEvent.{TimedEvent}
 use Rattle.render.specs.declared.Run.{Run}
 use Rattle.score.specs.Events.{State}
 use Rattle.score.specs.Score.{no_event}
-use Rattle.score.specs.declared.Total.{Total}
 use Rattle.score.specs.Contacts.{Totals, contacts_of}
 use Rattle.render.specs.Render.{PianoAt, Renderable, Rendered, rendering_of, unstarted, silence, run, samples, forces}
 use Rattle.render.specs.Laws.{samples_length, forces_few, run_contact}
@@ -33,34 +36,37 @@ use Rattle.score_edits.specs.Edits.{removed}
 use Rattle.machine.specs.Refusals.{scratch_cells}
 use Rattle.machine.specs.Machine.{start_of, settled}
 use Rattle.session_cues.specs.declared.Cue.{Cue}
-use Rattle.session_cues.specs.Cues.{slot_at, free_slot, drop_above, sound_piano}
-use Rattle.session_cues.specs.Laws.{slot_in, free_slot_full}
+use Rattle.session_cues.specs.Cues.{stands_at, is_free, free_slot, drop_above, sound_piano}
+use Rattle.session_cues.specs.Laws.{found_if, found_at, slot_found, free_slot_full}
 use Rattle.session_record.specs.declared.Session.{Session}
 use Rattle.session_record.specs.Record.{score_of, play_number, cue_number, go_number, insert_number, remove_number}
-use Rattle.session_record.specs.Laws.{Passed, PlayPassed, CuePassed, GoPassed, InsertPassed, RemovePassed, passed_play, passed_cue, passed_go, passed_insert, passed_remove}
+use Rattle.session_record.specs.Laws.{Passed, PlayPassed, CuePassed, GoPassed, InsertPassed, RemovePassed, passed_play, passed_cue, passed_go}
+use Rattle.session_record.specs.Laws.{passed_insert, passed_remove, passed_zero}
 use Rattle.session.specs.declared.Answer.TheVariants.{Played, Cued, Went, Edited}
 use Rattle.session.specs.declared.Outcome.{Outcome}
 use Rattle.session.specs.Calls.{kept_by, held_at, Plays, Cues, Goes, Edits, Removes, Restores}
 use Rattle.session.specs.Laws.{slot_fits, slot_past, sound_for_render, silent_cells, held_length, held_sound}
 
--- ---- a call that found its number to be 0 has passed its tests
+-- ---- a call that is not refused has passed its tests
 
-module _ (i : Instrument) (s : Session) (work : List Float) where
-  pub play_tested : (spare out trace : List Float) (n : ℕ) → n ≡ play_number i s (length work) (length spare) (length out) (length trace) → n ≡ 0
+module _ (i : Instrument) (s : Session) (work : List Float) {A : Type 0} (r : Result A Refusal) (u : A) (is : r ≡ Ok u) where
+  pub play_tested : (spare out trace : List Float) → number_in r ≡ play_number i s (length work) (length spare) (length out) (length trace)
       → PlayPassed i s (length work) (length spare) (length out) (length trace)
-  play_tested spare out trace n e z = passed_play i s (length work) (length spare) (length out) (length trace) (sym e ∙ z)
+  play_tested spare out trace e =
+      passed_play i s (length work) (length spare) (length out) (length trace)
+      (passed_zero r (play_number i s (length work) (length spare) (length out) (length trace)) e u is)
 
-  pub cue_tested : (n : ℕ) → n ≡ cue_number i s (length work) → n ≡ 0 → CuePassed i s (length work)
-  cue_tested n e z = passed_cue i s (length work) (sym e ∙ z)
+  pub cue_tested : number_in r ≡ cue_number i s (length work) → CuePassed i s (length work)
+  cue_tested e = passed_cue i s (length work) (passed_zero r (cue_number i s (length work)) e u is)
 
-  pub go_tested : (spare : List Float) (p n : ℕ) → n ≡ go_number i s (length work) (length spare) p → n ≡ 0 → GoPassed i s (length work) (length spare) p
-  go_tested spare p n e z = passed_go i s (length work) (length spare) p (sym e ∙ z)
+  pub go_tested : (spare : List Float) (p : ℕ) → number_in r ≡ go_number i s (length work) (length spare) p → GoPassed i s (length work) (length spare) p
+  go_tested spare p e = passed_go i s (length work) (length spare) p (passed_zero r (go_number i s (length work) (length spare) p) e u is)
 
-  pub insert_tested : (x : TimedEvent) (n : ℕ) → n ≡ insert_number i s (length work) x → n ≡ 0 → InsertPassed i s (length work)
-  insert_tested x n e z = passed_insert i s (length work) x (sym e ∙ z)
+  pub insert_tested : (x : TimedEvent) → number_in r ≡ insert_number i s (length work) x → InsertPassed i s (length work)
+  insert_tested x e = passed_insert i s (length work) x (passed_zero r (insert_number i s (length work) x) e u is)
 
-  pub remove_tested : (index n : ℕ) → n ≡ remove_number i s (length work) index → n ≡ 0 → RemovePassed i s (length work) index
-  remove_tested index n e z = passed_remove i s (length work) index (sym e ∙ z)
+  pub remove_tested : (index : ℕ) → number_in r ≡ remove_number i s (length work) index → RemovePassed i s (length work) index
+  remove_tested index e = passed_remove i s (length work) index (passed_zero r (remove_number i s (length work) index) e u is)
 
 -- ---- what the calls share
 
@@ -72,7 +78,8 @@ silenced i work ok room w ew cells e =
     rw ew (ap (λ c. c ++ drop (part_cells i) work) (silent_cells i ok (take w work) cells size e))
 
 -- what records that pass 7 and 8 let the renderer have: a state that can be held for t, samples that end in time, W cells and scratch
-pub ready : (i : Instrument) (s : Session) (cells : ℕ) → Passed i s cells → (t m : ℕ) (part spare : List Float) (piano : Piano) → sound_piano i.key_count t piano ≡ true
+pub ready : (i : Instrument) (s : Session) (cells : ℕ) → Passed i s cells → (t m : ℕ) (part spare : List Float) (piano : Piano)
+    → sound_piano i.key_count t piano ≡ true
     → t + m ≤ end → length part ≡ part_cells i → scratch_cells i ≤ length spare
     → Renderable i part spare × (s.count ≤ 64) × PianoAt i.key_count piano t × (t + m < 18446744073709551616)
 unfolding scratch_cells
@@ -89,30 +96,44 @@ stored_all l vs l' e h =
 
 -- ---- play
 
-module _ (i : Instrument) (s : Session) (work spare out trace : List Float) (p : PlayPassed i s (length work) (length spare) (length out) (length trace)) (w : ℕ) (ew : w ≡ part_cells i) where
+module _ (i : Instrument) (s : Session) (work spare out trace : List Float)
+    (p : PlayPassed i s (length work) (length spare) (length out) (length trace)) (w : ℕ) (ew : w ≡ part_cells i) where
   pub play_ready : Renderable i (take w work) spare × (s.count ≤ 64) × PianoAt i.key_count s.piano s.t × (s.t + length out < 18446744073709551616)
   play_ready =
       let size = length-take-le w work (omega (arith, p.records.room)) ∙ ew in
       ready i s (length work) p.records s.t (length out) (take w work) spare s.piano p.records.now p.stops size p.spare
 
-  -- what the renderer gave for all of the output, with its counts' sum, which is not above the new position, is the call's promise
-  pub plays : (r : Run) (part' out' trace' : List Float) (total : Total)
+  -- the renderer's counts have a sum that is not above the new position
+  pub counted : (r : Run) (part' out' trace' : List Float) (total : Option ℕ)
       → Rendered i (score_of s) s.t (length out) (unstarted s.piano (take w work) out trace) (rendering_of r part' out' trace')
-      → Totals i.key_count r.piano.contact_samples (s.t + length out) total
+      → Totals i.key_count r.piano.contact_samples (s.t + length out) total → is_some total ≡ true
+  unfolding contacts_of
+  counted r part' out' trace' total b c =
+      let st : State = record { piano = s.piano; cells = take w work } in
+      let after : r.piano ≡ (run i (score_of s) s.t (length out) st).piano = ap (λ x. x.piano) b.state in
+      let low = rw (← after) at (run_contact i (score_of s) i.key_count s.t (length out) st) in
+      let start = play_ready.2.within in
+      c.within ∙ le-leb (contacts_of i.key_count r.piano) (s.t + length out) (omega (arith, low, start))
+
+  -- what the renderer gave for all of the output, with its counts' sum, is the call's promise
+  pub plays : (r : Run) (part' out' trace' : List Float) (total : Option ℕ) (n : ℕ)
+      → Rendered i (score_of s) s.t (length out) (unstarted s.piano (take w work) out trace) (rendering_of r part' out' trace')
+      → Totals i.key_count r.piano.contact_samples (s.t + length out) total → total ≡ Some n
       → Plays i s work out trace
-      (record { answer = Played r.pushed total.sum; session = record { t = s.t + length out; count = s.count; events = s.events; cues = s.cues; piano = r.piano } })
+      (record {
+        answer = Ok (Played r.pushed n);
+        session = record { t = s.t + length out; count = s.count; events = s.events; cues = s.cues; piano = r.piano };
+      })
       (part' ++ drop w work) out' trace'
   unfolding contacts_of
-  plays r part' out' trace' total b c =
+  plays r part' out' trace' total n b c found =
       let st : State = record { piano = s.piano; cells = take w work } in
       let vs = samples i (score_of s) s.t (length out) st in
       let fs = forces i (score_of s) s.t (length out) st in
       let after : r.piano ≡ (run i (score_of s) s.t (length out) st).piano = ap (λ x. x.piano) b.state in
-      let low = rw (← after) at (run_contact i (score_of s) i.key_count s.t (length out) st) in
-      let start = play_ready.2.within in
-      let sum = c.sum (c.within ∙ le-leb (contacts_of i.key_count r.piano) (s.t + length out) (omega (arith, low, start))) in
+      let sum = rw found at c.sum in
       record {
-        answer = rw (← ew) (ap (λ k. Played k total.sum) b.forced ∙ ap (λ n. Played (length fs) n) (sum ∙ ap (contacts_of i.key_count) after));
+        answer = rw (← ew) (ap (λ k. Ok (Played k n)) b.forced ∙ ap (λ m. Ok (Played (length fs) m)) (sum ∙ ap (contacts_of i.key_count) after));
         session = rw (← ew) (ap (λ x. record { t = s.t + length out; count = s.count; events = s.events; cues = s.cues; piano = x.piano }) b.state);
         memory = rw (← ew) (ap (λ x. x.cells ++ drop w work) b.state);
         sound = rw (← ew) (stored_all out vs out' b.outs (samples_length i (score_of s) s.t (length out) st));
@@ -121,22 +142,31 @@ module _ (i : Instrument) (s : Session) (work spare out trace : List Float) (p :
 
 -- ---- cue
 
-module _ (i : Instrument) (s : Session) (work : List Float) (p : CuePassed i s (length work)) (four : length s.cues ≡ 4) (again : ℕ) (ea : again ≡ 0 + slot_at s.t s.cues) where
-  pub cue_again : again < 4 → Cues i s work (record { answer = Cued; session = s }) work
-  cue_again h =
-      let k : is_in s.t (kept_by s) ≡ true = sym (slot_in s.t s.cues) ∙ lt-ltb (slot_at s.t s.cues) (length s.cues) (omega arith) in
-      record { answer = refl; again = λ f. (refl, refl); adds = λ f. true_or_false (is_in s.t (kept_by s)) k f }
+module _ (i : Instrument) (s : Session) (work : List Float) (p : CuePassed i s (length work)) (four : length s.cues ≡ 4)
+    (again : Bool) (ea : is_some (position (stands_at s.t) s.cues) ≡ again) where
+  kept : is_in s.t (kept_by s) ≡ again
+  kept = sym (slot_found s.t s.cues) ∙ ea
 
-  module _ (h : 4 ≤ again) (slot : ℕ) (es : slot ≡ free_slot s.cues) where
+  pub cue_again : again ≡ true → Cues i s work (record { answer = Ok Cued; session = s }) work
+  cue_again h = record { answer = refl; again = λ f. (refl, refl); adds = λ f. true_or_false (is_in s.t (kept_by s)) (kept ∙ h) f }
+
+  module _ (h : again ≡ false) where
     absent : is_in s.t (kept_by s) ≡ false
-    absent = sym (slot_in s.t s.cues) ∙ le-ltb (slot_at s.t s.cues) (length s.cues) (omega arith)
+    absent = kept ∙ h
 
     -- fewer than four others are kept and t is not, so that a slot is free
-    pub cue_slot : slot < 4
-    cue_slot =
+    pub cue_free : is_some (position is_free s.cues) ≡ true
+    cue_free =
         let others = count_others s.t (kept_by s) in
         let less : length (kept_by s) < length s.cues = omega (arith, p.free, ltb-false 0 (count (eqb s.t) (kept_by s)) absent) in
-        omega (arith, ltb-true (free_slot s.cues) (length s.cues) (free_slot_full s.cues ∙ lt-ltb (length (kept_by s)) (length s.cues) less))
+        found_if is_free s.cues ∙ free_slot_full s.cues ∙ lt-ltb (length (kept_by s)) (length s.cues) less
+
+  module _ (h : again ≡ false) (slot : ℕ) (found : position is_free s.cues ≡ Some slot) where
+    pub cue_slot : slot < 4
+    cue_slot = omega (arith, (found_at is_free s.cues slot found).1)
+
+    es : slot ≡ free_slot s.cues
+    es = (found_at is_free s.cues slot found).0
 
     module _ (w : ℕ) (ew : w ≡ part_cells i) where
       -- its part lies in the memory and apart from the first
@@ -148,7 +178,7 @@ module _ (i : Instrument) (s : Session) (work : List Float) (p : CuePassed i s (
       pub cue_added : (work' : List Float) → work' ≡ splice ((slot + 1) * w) w (part 0 w work) work
           → Cues i s work
           (record {
-            answer = Cued;
+            answer = Ok Cued;
             session = record {
               t = s.t;
               count = s.count;
@@ -159,7 +189,7 @@ module _ (i : Instrument) (s : Session) (work : List Float) (p : CuePassed i s (
           })
           work'
       cue_added work' g =
-          record { answer = refl; again = λ f. true_or_false (is_in s.t (kept_by s)) f absent; adds = λ f. (rw es refl, rw (← es, ← ew) g) }
+          record { answer = refl; again = λ f. true_or_false (is_in s.t (kept_by s)) f (absent h); adds = λ f. (rw es refl, rw (← es, ← ew) g) }
 
 -- ---- go
 
@@ -189,21 +219,24 @@ module _ (i : Instrument) (s : Session) (work spare : List Float) (q : ℕ) (p :
   pub goes : (after : Piano) (part' : List Float) (done : ℕ)
       → record { piano = after; cells = part' } ≡ run i (score_of s) start (q - start) (record { piano = piano; cells = take w work₁ }) → done ≡ q - start
       → Goes i s work q (start_of s.t (kept_by s) q)
-      (record { answer = Went done; session = record { t = q; count = s.count; events = s.events; cues = s.cues; piano = after } })
+      (record { answer = Ok (Went done); session = record { t = q; count = s.count; events = s.events; cues = s.cues; piano = after } })
       (part' ++ drop w work₁)
   goes after part' done e n =
       let st : record { piano = after; cells = part' } ≡ run i (score_of s) start (q - start) held = e ∙ rw (rs.piano, front) refl in
       record {
-        answer = rw (← es) (ap Went n);
+        answer = rw (← es) (ap (λ m. Ok (Went m)) n);
         session = rw (← es) (ap (λ x. record { t = q; count = s.count; events = s.events; cues = s.cues; piano = x.piano }) st);
         memory = rw (← es, behind) (ap (λ x. x.cells ++ drop (part_cells i) work) st);
       }
 
 -- ---- insert and remove
 
-pub edited : (i : Instrument) (s : Session) (work : List Float) (q number : ℕ) (left : List TimedEvent) (t dropped : ℕ) (piano : Piano) (cues : List Cue) (work' : List Float)
+pub edited : (i : Instrument) (s : Session) (work : List Float) (q number : ℕ) (left : List TimedEvent) (t dropped : ℕ) (piano : Piano)
+    (cues : List Cue) (work' : List Float)
     → t ≡ settled s.t (kept_by s) q → dropped ≡ above q (kept_by s) → cues ≡ map (drop_above q) s.cues → Restores i s work t piano work'
-    → Edits i s work q number left (record { answer = Edited t dropped; session = record { t = t; count = number; events = left; cues = cues; piano = piano } }) work'
+    → Edits i s work q number left
+    (record { answer = Ok (Edited t dropped); session = record { t = t; count = number; events = left; cues = cues; piano = piano } })
+    work'
 edited i s work q number left t dropped piano cues work' et ed ec rs =
     record { answer = rw (← et, ed); session = rw (← et, ec, rs.piano); memory = rw (← et) rs.memory }
 

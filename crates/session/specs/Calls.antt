@@ -75,8 +75,8 @@ OpenMeets i work r work' =
 pub record Plays (i : Instrument) (s : Session) (work out trace : List Float) (r : Outcome) (work' out' trace' : List Float) : Type 0 where
   pub answer : r.answer
       ≡ Ok (
-        Played (length (forces i (score_of s) s.t (length out) (state_now i s work)))
-        (contacts_of i.key_count (run i (score_of s) s.t (length out) (state_now i s work)).piano)
+      Played (length (forces i (score_of s) s.t (length out) (state_now i s work)))
+      (contacts_of i.key_count (run i (score_of s) s.t (length out) (state_now i s work)).piano)
       )
   pub session : r.session
       ≡ record {

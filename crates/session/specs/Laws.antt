@@ -71,7 +71,8 @@ pub silent_length : (i : Instrument) → valid i ≡ true → length (silence i)
 silent_length i ok = ap (λ s. length s.cells) (sym (render_zero i [])) ∙ rendered_length i ok [] 0
 
 -- silence in a part of W cells
-pub silent_cells : (i : Instrument) → valid i ≡ true → (part cells : List Float) → length part ≡ part_cells i → cells ≡ replicate (length part) zero_cell → cells ≡ (silence i).cells
+pub silent_cells : (i : Instrument) → valid i ≡ true → (part cells : List Float) → length part ≡ part_cells i
+    → cells ≡ replicate (length part) zero_cell → cells ≡ (silence i).cells
 unfolding silence
 silent_cells i ok part cells e f = f ∙ ap (λ n. replicate n zero_cell) (e ∙ sym (cells_are i ok))
 
@@ -116,7 +117,8 @@ module _ (i : Instrument) (s : Session) (work : List Float) (x : ℕ) where
     held_length ok room =
         held_cases (λ st. length st.cells ≡ part_cells i)
         (λ e. length-take-le (part_cells i) work (omega arith))
-        (λ f. part_length ((slot_at x s.cues + 1) * part_cells i) (part_cells i) work (slot_fits (slot_at x s.cues) (part_cells i) (length work) (slot_there f) room))
+        (λ f. part_length ((slot_at x s.cues + 1) * part_cells i) (part_cells i) work
+        (slot_fits (slot_at x s.cues) (part_cells i) (length work) (slot_there f) room))
         (λ e f. silent_length i ok)
 
     -- its count is not above the position, its hammer on a key that is there

@@ -105,35 +105,34 @@ pub fn play(
         return refused(session, refusal);
     }
     let w = session_record::part_size(instrument);
+    let events = session.events;
+    let score = Score {
+        events,
+        count: session.count,
+    };
     let m = out.len() as u64;
-    let next = session.t + m;
     let played = render::render(
         &mut work[..w],
         scratch,
         out,
         trace,
         instrument,
-        Score {
-            events: session.events,
-            count: session.count,
-        },
+        score,
         session.piano,
         session.t,
         m,
     );
-    let piano = played.piano;
+    let mut next = session;
+    next.t = session.t + m;
+    next.piano = played.piano;
     // The render promises that the sum is not above its end, so that there is one.
-    let contacts = score::contacts(piano.contact_samples, instrument.key_count, next).unwrap();
+    let contacts = score::contacts(next.piano.contact_samples, instrument.key_count, next.t);
     Outcome {
         answer: Ok(Answer::Played {
             k: played.pushed,
-            contacts,
+            contacts: contacts.unwrap(),
         }),
-        session: Session {
-            t: next,
-            piano,
-            ..session
-        },
+        session: next,
     }
 }
 
@@ -197,14 +196,23 @@ pub fn go(
     ensures scratch_stays { ScratchStays (go_number instrument session (length work.old) (length scratch.old) p)
         scratch.old scratch.new }
 {
-    if let Err(refusal) =
-        session_record::go_refusal(instrument, session, work.len(), scratch.len(), p)
-    {
+    if let Err(refusal) = session_record::go_refusal(
+        instrument,
+        session,
+        work.len(),
+        scratch.len(),
+        p,
+    ) {
         return refused(session, refusal);
     }
     let w = session_record::part_size(instrument);
     let start = session_record::start_of(session, p);
     let held = restore(instrument, session, start, work);
+    let events = session.events;
+    let score = Score {
+        events,
+        count: session.count,
+    };
     let mut no_out = [0.0; 1];
     let mut no_trace = [0.0; 1];
     let replayed = render::render(
@@ -213,21 +221,17 @@ pub fn go(
         &mut no_out,
         &mut no_trace,
         instrument,
-        Score {
-            events: session.events,
-            count: session.count,
-        },
+        score,
         held,
         start,
         p - start,
     );
+    let mut next = session;
+    next.t = p;
+    next.piano = replayed.piano;
     Outcome {
         answer: Ok(Answer::Went(replayed.done)),
-        session: Session {
-            t: p,
-            piano: replayed.piano,
-            ..session
-        },
+        session: next,
     }
 }
 

@@ -1,5 +1,6 @@
 -- What the library's chains over the slots find, in the words of the set of positions. Assumes nothing.
-use Rattle.std.specs.Prelude.{◌≡◌, refl, Bool, true, false, cond, not, ◌&&◌, ◌||◌, List, [], ◌∷◌, ◌++◌, map, take, drop, set, get_or, ℕ, zero, suc, ◌<◌, ◌+◌, max, leb, ltb, length, filter, fold, position, Option, None, Some}
+use Rattle.std.specs.Prelude.{◌≡◌, refl, Bool, true, false, cond, not, ◌&&◌, ◌||◌, List, [], ◌∷◌, ◌++◌, map, take, drop, set, get_or, ℕ, zero, suc}
+use Rattle.std.specs.Prelude.{◌<◌, ◌+◌, max, leb, ltb, length, filter, fold, position, Option, None, Some}
 use Rattle.std.specs.Option.{is_some}
 use Rattle.std.specs.List.{count_by, reduce}
 use Rattle.std.specs.Option.{option_map, unwrap_or}
@@ -31,7 +32,8 @@ kept_to_is p [] = refl
 kept_to_is p (c ∷ cs) = go c.kept (leb c.position p) refl (kept_to_is p cs)
   where
     go : (k b : Bool) → leb c.position p ≡ b → map (λ (c : Cue). c.position) (filter (λ (c : Cue). c.kept && leb c.position p) cs) ≡ up_to p (kept_of cs)
-        → map (λ (c : Cue). c.position) (cond (k && b) (c ∷ filter (λ (c : Cue). c.kept && leb c.position p) cs) (filter (λ (c : Cue). c.kept && leb c.position p) cs))
+        → map (λ (c : Cue). c.position) (cond (k && b) (c ∷ filter (λ (c : Cue). c.kept && leb c.position p) cs)
+        (filter (λ (c : Cue). c.kept && leb c.position p) cs))
         ≡ up_to p (cond k (c.position ∷ kept_of cs) (kept_of cs))
     go true true e ih = rw e (ap (λ l. c.position ∷ l) ih)
     go true false e ih = rw e ih
@@ -54,7 +56,9 @@ greatest_is (Some r) (x ∷ xs) e = let z : r ≡ fold max x xs = cc in z ∙ fo
 pub map_turn : (f : Cue → Cue) (xs ys : List Cue) (i : ℕ) (d : Cue) → i < length xs → ys ≡ map f (take i xs) ++ drop i xs
     → set ys i (f (get_or ys i d)) ≡ map f (take (i + 1) xs) ++ drop (i + 1) xs
 map_turn f xs ys i d h e =
-    map_over_more f xs ys i (get_or ys i d) h e (get_or_default ys i d (get_or ys i d) (omega (arith, ap length e, simp (length-append, length-map, length-take, length-drop) at (ap length e))))
+    map_over_more f xs ys i (get_or ys i d) h e
+    (get_or_default ys i d (get_or ys i d)
+    (omega (arith, ap length e, simp (length-append, length-map, length-take, length-drop) at (ap length e))))
 
 pub lost_is : (q : ℕ) (cs : List Cue) → count_by (λ (c : Cue). c.kept && ltb q c.position) cs ≡ above q (kept_of cs)
 lost_is q cs = sym (length-filter (λ (c : Cue). c.kept && ltb q c.position) cs) ∙ count_lost q cs

@@ -1,5 +1,6 @@
--- Document 01, "The session": the kept cues, as four slots in order. Refusal 7: "a session with .. a cue above the end of 11, .. over four cues or two equal, a hammer on a key not
--- there, a contact count above its position", which is now a sum over keys. Over four cannot be written down here. Definitions only: assumes nothing.
+-- Document 01, "The session": the kept cues, as four slots in order. Refusal 7: "a session with .. a cue above the end of 11, .. over four
+-- cues or two equal, a hammer on a key not there, a contact count above its position", which is now a sum over keys. Over four cannot be
+-- written down here. Definitions only: assumes nothing.
 use Rattle.std.specs.Prelude.{Bool, true, cond, not, ◌&&◌, ◌||◌, List, [], ◌∷◌, ℕ, eqb, leb, ltb}
 use Rattle.std.specs.List.{position_or_len}
 use Rattle.score.specs.declared.Piano.{Piano}
@@ -31,8 +32,8 @@ drop_above q c = record { kept = c.kept && leb c.position q; position = c.positi
 
 -- ---- refusal 7
 
--- What may be held for a position x, of an instrument with so many keys; its floats may be anything. Document 02, W2: "refusal 7 tests each sum, the piano's and every cue's, against its
--- own position".
+-- What may be held for a position x, of an instrument with so many keys; its floats may be anything. Document 02, W2: "refusal 7 tests each
+-- sum, the piano's and every cue's, against its own position".
 unfoldable pub sound_piano : ℕ → ℕ → Piano → Bool
 sound_piano keys x p = leb (contacts_of keys p) x && hammer_on keys p.motion.hammer
 

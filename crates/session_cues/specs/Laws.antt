@@ -1,5 +1,6 @@
 -- Laws of the slots: what they keep as a set of positions, and what a passed test says of each. Assumes nothing.
-use Rattle.std.specs.Prelude.{◌≡◌, refl, Bool, true, false, cond, not, ◌&&◌, ◌||◌, List, [], ◌∷◌, map, ℕ, zero, suc, ◌+◌, ◌<◌, ◌≤◌, eqb, leb, ltb, length, get_or, set, position, Some, None}
+use Rattle.std.specs.Prelude.{◌≡◌, refl, Bool, true, false, cond, not, ◌&&◌, ◌||◌, List, [], ◌∷◌, map, ℕ, zero, suc, ◌+◌, ◌<◌, ◌≤◌, eqb, leb, ltb}
+use Rattle.std.specs.Prelude.{length, get_or, set, position, Some, None}
 use Rattle.std.specs.Option.{is_some}
 use Rattle.std.specs.List.{position_or_len}
 use Rattle.std.proofs.Common.{sym, ◌∙◌, ap, one-add, arith, ltb-true, lt-ltb, le-leb, eqb-true, leb-true}
@@ -11,7 +12,8 @@ use Rattle.score.specs.Contacts.{contacts_of, hammer_on}
 use Rattle.positions.specs.Positions.{end, count, is_in, up_to, distinct, Same}
 use Rattle.positions.specs.Laws.{and_true, and_both, true_or_false, count_swap, in_front, in_cons, in_none}
 use Rattle.session_cues.specs.declared.Cue.{Cue}
-use Rattle.session_cues.specs.Cues.{kept_of, stands_at, is_free, slot_at, free_slot, drop_above, sound_piano, sound_cue, sound_cue_to, sound_cues, sound_cues_to}
+use Rattle.session_cues.specs.Cues.{kept_of, stands_at, is_free, slot_at, free_slot, drop_above, sound_piano, sound_cue, sound_cue_to, sound_cues}
+use Rattle.session_cues.specs.Cues.{sound_cues_to}
 
 -- ---- what the slots keep
 
@@ -108,7 +110,8 @@ pub slot_found : (x : ℕ) (cs : List Cue) → is_some (position (stands_at x) c
 slot_found x cs = found_if (stands_at x) cs ∙ slot_in x cs
 
 -- a cue put into a free slot is one member more
-pub kept_set : (cs : List Cue) (j : ℕ) (c d : Cue) → j < length cs → (get_or cs j d).kept ≡ false → c.kept ≡ true → Same (kept_of (set cs j c)) (c.position ∷ kept_of cs)
+pub kept_set : (cs : List Cue) (j : ℕ) (c d : Cue) → j < length cs → (get_or cs j d).kept ≡ false → c.kept ≡ true
+    → Same (kept_of (set cs j c)) (c.position ∷ kept_of cs)
 unfolding kept_of
 kept_set [] j c d h e k f = absurd (omega arith)
 kept_set (x ∷ cs) zero c d h e k f = rw (e, k)
@@ -171,7 +174,8 @@ distinct_if false x l e = (λ k. true_or_false false k refl, e)
 
 -- cues at distinct positions, none above the end, each with a sound piano, pass
 pub cues_pass : (keys : ℕ) (cs : List Cue) (d : Cue) → distinct (kept_of cs) ≡ true
-    → ((j : ℕ) → j < length cs → (get_or cs j d).kept ≡ true → ((get_or cs j d).position ≤ end) × (sound_piano keys (get_or cs j d).position (get_or cs j d).piano ≡ true))
+    → ((j : ℕ) → j < length cs → (get_or cs j d).kept ≡ true → ((get_or cs j d).position ≤ end)
+    × (sound_piano keys (get_or cs j d).position (get_or cs j d).piano ≡ true))
     → sound_cues keys cs ≡ true
 unfolding sound_cues_to sound_cue_to kept_of
 cues_pass keys [] d e h = refl

@@ -13,6 +13,7 @@ use score_edits::END;
 
 #[derive(Clone, Copy)]
 pub struct Cue {
+    // A flag and no Option: in the words that cross to C a dropped slot keeps its position and its piano.
     pub kept: bool,
     pub position: u64,
     pub piano: Piano,

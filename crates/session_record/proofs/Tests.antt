@@ -81,7 +81,8 @@ module _ (t : ℕ) (cs : List Cue) (four : length cs ≡ 4) where
       let m : is_in t (kept_of cs) ≡ false = sym (slot_found t cs) ∙ h in
       let n : ltb (length (kept_of cs)) (length cs) ≡ false = sym (free_slot_full cs) ∙ sym (found_if is_free cs) ∙ g in
       let others_here = count_others t (kept_of cs) in
-      rw (le-leb 4 (others t (kept_of cs)) (omega (arith, ltb-false 0 (count (eqb t) (kept_of cs)) m, ltb-false (length (kept_of cs)) (length cs) n, others_here)))
+      rw (le-leb 4 (others t (kept_of cs))
+      (omega (arith, ltb-false 0 (count (eqb t) (kept_of cs)) m, ltb-false (length (kept_of cs)) (length cs) n, others_here)))
 
 -- ---- go: where it starts
 

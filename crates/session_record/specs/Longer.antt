@@ -1,5 +1,6 @@
--- Document 02, W8: "A session record that passed 7 still passes with equal numbers." For any two ends: a session that is sound under the earlier one is sound under the later one, and it is
--- the record itself, with the numbers that it has. Each test of a position lets through what it let through, and every other test is the same. Assumes nothing.
+-- Document 02, W8: "A session record that passed 7 still passes with equal numbers." For any two ends: a session that is sound under the
+-- earlier one is sound under the later one, and it is the record itself, with the numbers that it has. Each test of a position lets through
+-- what it let through, and every other test is the same. Assumes nothing.
 use Rattle.std.specs.Prelude.{◌≡◌, refl, Bool, true, false, not, ◌&&◌, ◌||◌, ℕ, ◌≤◌, leb}
 use mathlib.Core.List.{List, [], ◌∷◌}
 use Rattle.std.proofs.Common.{arith, le-leb, leb-true}
@@ -56,4 +57,5 @@ module _ (a b : ℕ) (longer : a ≤ b) where
   unfolding sound_session_to
   session_longer keys s =
       and_weaker (unchanged (leb s.count 64))
-      (and_weaker (and_weaker (and_weaker (position_longer s.t) (score_longer (score_of s))) (unchanged (sound_piano keys s.t s.piano))) (cues_longer keys s.cues))
+      (and_weaker (and_weaker (and_weaker (position_longer s.t) (score_longer (score_of s))) (unchanged (sound_piano keys s.t s.piano)))
+      (cues_longer keys s.cues))

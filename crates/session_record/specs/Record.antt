@@ -1,5 +1,6 @@
--- Document 01, refusals 7 and 8: "A handed-in record, whose fields are open, is wrong: an instrument that no accepted file gives; or a session with t .. above the end of 11, over 64
--- events, ..", and "Work memory .. has fewer than 5W cells"; and each call's number, 7 and 8 before the machine's. Definitions only: assumes nothing.
+-- Document 01, refusals 7 and 8: "A handed-in record, whose fields are open, is wrong: an instrument that no accepted file gives; or a
+-- session with t .. above the end of 11, over 64 events, ..", and "Work memory .. has fewer than 5W cells"; and each call's number, 7 and 8
+-- before the machine's. Definitions only: assumes nothing.
 use Rattle.std.specs.Prelude.{Bool, not, ◌&&◌, List, ℕ, ◌*◌, leb, ltb, take}
 use Rattle.instrument.specs.declared.Instrument.{Instrument}
 use Rattle.instrument.specs.Valid.{valid}

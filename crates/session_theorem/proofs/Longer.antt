@@ -1,7 +1,7 @@
--- Document 02, W8: a list of calls from opening that got no 11 under the end that document 01 had gets the same answers and leaves the same score, position and cues. The program under that
--- end was the plain machine that ends there, by `demand_3` as it stood; the program now is the plain machine with the end of Positions, by `demand_3`; the laws of two ends join them.
--- Assumes nothing.
-use Rattle.std.specs.Prelude.{◌≡◌, List, Float}
+-- Document 02, W8: a list of calls from opening that got no 11 under the end that document 01 had gets the same answers and leaves the same
+-- score, position and cues. The program under that end was the plain machine that ends there, by `demand_3` as it stood; the program now is
+-- the plain machine with the end of Positions, by `demand_3`; the laws of two ends join them. Assumes nothing.
+use Rattle.std.specs.Prelude.{◌≡◌, List, Float, Ok}
 use Rattle.std.proofs.Common.{sym, ◌∙◌, arith}
 use Rattle.instrument.specs.declared.Instrument.{Instrument}
 use Rattle.positions.specs.Positions.{end}
@@ -15,8 +15,9 @@ use Rattle.session_theorem.specs.Runs.{Runs, Follows}
 use Rattle.session_theorem.specs.Demand.{demand_3}
 use Rattle.session_theorem.specs.Longer.{former_end}
 
--- where the plain machine that ended there refuses no call of the list as 11, the program's replies are that machine's, and its session and memory after the list follow it
-pub former_list : (i : Instrument) (work work' : List Float) (r : Outcome) → OpenMeets i work r work' → r.answer ≡ Opened
+-- where the plain machine that ended there refuses no call of the list as 11, the program's replies are that machine's, and its session and
+-- memory after the list follow it
+pub former_list : (i : Instrument) (work work' : List Float) (r : Outcome) → OpenMeets i work r work' → r.answer ≡ Ok Opened
     → {cs : List Call} {rs : List Reply} {s : Session} {work'' : List Float} → Runs i r.session work' cs rs s work''
     → NonePastEnd (replies_to former_end i opened cs) → (rs ≡ replies_to former_end i opened cs) × Follows i s work'' (final_to former_end i opened cs)
 former_list i work work' r h e {cs} t none =

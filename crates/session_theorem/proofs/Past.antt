@@ -1,7 +1,8 @@
--- Two sessions with work memories that agree but for what decides nothing (specs/Past.antt) get the same replies from every list of calls, and agree again afterwards. Assumes nothing.
-use Rattle.std.specs.Prelude.{◌≡◌, Bool, ◌&&◌, List, ◌∷◌, ◌++◌, map, eqb, leb, ltb, Float, take, drop, get_or, set}
+-- Two sessions with work memories that agree but for what decides nothing (specs/Past.antt) get the same replies from every list of calls,
+-- and agree again afterwards. Assumes nothing.
+use Rattle.std.specs.Prelude.{◌≡◌, Bool, ◌&&◌, List, ◌∷◌, ◌++◌, map, eqb, leb, ltb, Float, take, drop, get_or, set, Result}
 use Rattle.std.proofs.Math.Path.{refl, sym, ap}
-use Rattle.std.proofs.Common.{◌∙◌, arith, eqb-true, ltb-true, length-set, length-take-le, get_or-set_other}
+use Rattle.std.proofs.Common.{◌∙◌, arith, eqb-true, ltb-true, length-set, length-take-le, get_or-set_other, one-add}
 use Rattle.std.proofs.Math.Bool.{true, false, cond, not}
 use Prim.Native.Nat.{ℕ, zero, suc, ◌+◌, ◌-◌, ◌*◌, ◌<◌, ◌≤◌}
 use Rattle.std.proofs.lemmas.Bool.{eqb-false}
@@ -27,14 +28,17 @@ use Rattle.session_record.specs.declared.Session.{Session}
 use Rattle.session_record.specs.Record.{score_of, sound_session_to, record_refusal}
 use Rattle.session_record.specs.Laws.{Passed, CuePassed, passed_play, passed_cue, passed_go, passed_insert, passed_remove}
 use Rattle.session.specs.declared.Outcome.{Outcome}
-use Rattle.session.specs.Calls.{kept_by, empty_cue, cue_at, state_now, state_cue, held_at, refused_with, Plays, PlayMeets, Cues, CueMeets, Goes, GoMeets, Edits, InsertMeets, RemoveMeets}
+use Rattle.session.specs.Calls.{kept_by, empty_cue, cue_at, state_now, state_cue, held_at, refused_with, Plays, PlayMeets, Cues, CueMeets, Goes}
+use Rattle.session.specs.Calls.{GoMeets, Edits, InsertMeets, RemoveMeets}
 use Rattle.session.specs.Laws.{get_any, held_length}
-use Rattle.energies.specs.declared.EnergiesAnswer.{EnergiesAnswer}
+use Rattle.refusal.specs.declared.Refusal.{Refusal}
+use Rattle.energies.specs.declared.Energies.{Energies}
 use Rattle.energies.specs.Energy.{no_energies_for, EnergiesMeet}
 use Rattle.energies.specs.Laws.{first_part_decides}
 use Rattle.session_theorem.specs.Runs.{reply_of, CallMeets, Runs}
 use Rattle.session_theorem.specs.Memory.{front_now, front_cue, front_length, slot_now, slot_new, slot_other, slot_length, run_cells}
-use Rattle.session_theorem.specs.PastKeys.{of_keys, cue_of_keys, SameState, same_contacts, same_sound_piano, same_sound_cue, same_run, same_samples, same_forces}
+use Rattle.session_theorem.specs.PastKeys.{of_keys, cue_of_keys, SameState, same_contacts, same_sound_piano, same_sound_cue, same_run, same_samples}
+use Rattle.session_theorem.specs.PastKeys.{same_forces}
 use Rattle.session_theorem.specs.Arrays.{placed_score, placed_long, removed_score, removed_long, free_slot_there}
 use Rattle.session_theorem.specs.Past.{SameCues, SameMemory, Alike, SameOutcome}
 
@@ -58,33 +62,40 @@ module _ (keys : ℕ) where
   same_sound (SameCues.free e f h) = rw (e, f) (same_sound h)
 
   same_slot : (x : ℕ) {a b : List Cue} → SameCues keys a b → slot_at x a ≡ slot_at x b
-  unfolding slot_at
   same_slot x SameCues.no_more = refl
   same_slot x (SameCues.kept {c = c} {d = d} {a = a} e h) =
-      ap (λ (y : Cue). cond (stands_at x y) 0 (suc (slot_at x a))) e ∙ ap (λ n. cond (stands_at x d) 0 (suc n)) (same_slot x h)
-  same_slot x (SameCues.free e f h) = rw (e, f) (ap suc (same_slot x h))
+      ap (λ (y : Cue). cond (not (stands_at x y)) (1 + slot_at x a) 0) e ∙ ap (λ n. cond (not (stands_at x d)) (1 + n) 0) (same_slot x h)
+  same_slot x (SameCues.free e f h) = rw (e, f) (ap (λ n. 1 + n) (same_slot x h))
 
   same_free : {a b : List Cue} → SameCues keys a b → free_slot a ≡ free_slot b
-  unfolding free_slot
   same_free SameCues.no_more = refl
-  same_free (SameCues.kept {c = c} {d = d} {a = a} e h) = ap (λ (x : Cue). cond x.kept (suc (free_slot a)) 0) e ∙ ap (λ n. cond d.kept (suc n) 0) (same_free h)
+  same_free (SameCues.kept {c = c} {d = d} {a = a} e h) =
+      ap (λ (x : Cue). cond (not (not x.kept)) (1 + free_slot a) 0) e ∙ ap (λ n. cond (not (not d.kept)) (1 + n) 0) (same_free h)
   same_free (SameCues.free e f h) = rw (e, f) refl
+
+  piano_later : (a b : List Cue) (c c' d e : Cue) (m n : ℕ) → of_keys keys (get_or a m d).piano ≡ of_keys keys (get_or b n e).piano
+      → of_keys keys (get_or (c ∷ a) (1 + m) d).piano ≡ of_keys keys (get_or (c' ∷ b) (1 + n) e).piano
+  piano_later a b c c' d e m n h = rw (one-add m, one-add n) h
+
+  slot_away : (x : ℕ) (c : Cue) (a : List Cue) → c.kept ≡ false → slot_at x (c ∷ a) ≡ 1 + slot_at x a
+  slot_away x c a k = rw k refl
 
   -- the piano of the slot that keeps x, but for those counts
   same_piano : (x : ℕ) {a b : List Cue} (d e : Cue) → SameCues keys a b → slot_at x a < length a
       → of_keys keys (get_or a (slot_at x a) d).piano ≡ of_keys keys (get_or b (slot_at x b) e).piano
-  unfolding slot_at
   same_piano x d e SameCues.no_more l = absurd (omega arith)
   same_piano x d e (SameCues.kept {c = c} {d = c'} {a = a} {b = b} k h) l =
       let stands : stands_at x c ≡ stands_at x c' = ap (stands_at x) k in
       rw stands (go (stands_at x c') (rw stands at l) (same_piano x d e h))
     where
-      go : (q : Bool) → cond q 0 (suc (slot_at x a)) < suc (length a)
+      go : (q : Bool) → cond (not q) (1 + slot_at x a) 0 < suc (length a)
           → (slot_at x a < length a → of_keys keys (get_or a (slot_at x a) d).piano ≡ of_keys keys (get_or b (slot_at x b) e).piano)
-          → of_keys keys (get_or (c ∷ a) (cond q 0 (suc (slot_at x a))) d).piano ≡ of_keys keys (get_or (c' ∷ b) (cond q 0 (suc (slot_at x b))) e).piano
+          → of_keys keys (get_or (c ∷ a) (cond (not q) (1 + slot_at x a) 0) d).piano ≡ of_keys keys (get_or (c' ∷ b) (cond (not q) (1 + slot_at x b) 0) e).piano
       go true l ih = ap (λ (y : Cue). y.piano) k
-      go false l ih = ih (omega arith)
-  same_piano x d e (SameCues.free k m h) l = rw (k, m) (same_piano x d e h (omega (arith, rw k at l)))
+      go false l ih = piano_later a b c c' d e (slot_at x a) (slot_at x b) (ih (omega arith))
+  same_piano x d e (SameCues.free {c = c} {d = c'} {a = a} {b = b} k m h) l =
+      let more = slot_away x c a k in
+      rw (more, slot_away x c' b m) (piano_later a b c c' d e (slot_at x a) (slot_at x b) (same_piano x d e h (omega (arith, more, l))))
 
 -- ---- what is asked of a session and its memory
 
@@ -115,7 +126,8 @@ module _ (i : Instrument) (s : Session) (work : List Float) (s' : Session) (work
           let d = empty_cue s.piano in
           let kept = (slot_kept x s.cues d l).0 in
           let piano = of_keys keys (cue_at s' (slot_at x s'.cues)).piano in
-          ap {B = State} (λ q. record { piano = q; cells = part ((slot_at x s.cues + 1) * part_cells i) (part_cells i) work }) (same_piano keys x d (empty_cue s'.piano) a.cues l)
+          ap {B = State} (λ q. record { piano = q; cells = part ((slot_at x s.cues + 1) * part_cells i) (part_cells i) work })
+          (same_piano keys x d (empty_cue s'.piano) a.cues l)
           ∙ ap {B = State} (λ c. record { piano = piano; cells = c }) (a.memory.held (slot_at x s.cues) d l kept)
           ∙ ap {B = State} (λ n. record { piano = piano; cells = part ((n + 1) * part_cells i) (part_cells i) work' }) (same_slot keys x a.cues)
 
@@ -191,7 +203,8 @@ module _ (w : ℕ) (cues : List Cue) (work work' left left' : List Float) (m : S
 fewer_same : (w q : ℕ) (cues : List Cue) (work work' : List Float) → SameMemory w cues work work' → SameMemory w (map (drop_above q) cues) work work'
 fewer_same w q cues work work' m = record { cells = m.cells; now = m.now; held = held }
   where
-    held : (j : ℕ) (d : Cue) → j < length (map (drop_above q) cues) → (get_or (map (drop_above q) cues) j d).kept ≡ true → part ((j + 1) * w) w work ≡ part ((j + 1) * w) w work'
+    held : (j : ℕ) (d : Cue) → j < length (map (drop_above q) cues) → (get_or (map (drop_above q) cues) j d).kept ≡ true
+        → part ((j + 1) * w) w work ≡ part ((j + 1) * w) w work'
     held j d l k =
         let c = get_any (map (drop_above q) cues) j d (drop_above q d) l ∙ get_or-map (drop_above q) cues j d in
         let b = and_true (get_or cues j d).kept (leb (get_or cues j d).position q) (ap (λ x. x.kept) (sym c) ∙ k) in
@@ -255,7 +268,8 @@ module _ (i : Instrument) (s : Session) (work : List Float) (s' : Session) (work
                   cues = a.cues;
                   piano = ap (λ (x : State). x.piano) same_ran;
                   memory = front_same W s.cues work work' left left' a.memory p.room ran.cells ran'.cells (ap (λ (x : State). x.cells) same_ran)
-                      (run_cells i p.sound (score_of s) s.t (length out) (state_now i s work) (length-take-le W work (omega (arith, p.room)))) d.memory d'.memory;
+                      (run_cells i p.sound (score_of s) s.t (length out) (state_now i s work)
+                      (length-take-le W work (omega (arith, p.room)))) d.memory d'.memory;
                   long = a.long;
                   long' = a.long';
                   four = a.four;
@@ -269,7 +283,8 @@ module _ (i : Instrument) (s : Session) (work : List Float) (s' : Session) (work
         (λ z d d'. play_accepted d d' (passed_play i s (length work) scratch (length out) (length trace) z).records)
 
   -- ---- cue
-  module _ (out trace out₀ trace₀ : List Float) (r r' : Outcome) (left left' : List Float) (h : CueMeets i s work r left) (h' : CueMeets i s' work' r' left') where
+  module _ (out trace out₀ trace₀ : List Float) (r r' : Outcome) (left left' : List Float) (h : CueMeets i s work r left)
+      (h' : CueMeets i s' work' r' left') where
     cue_accepted : (b : Bool) → is_in s.t (kept_by s) ≡ b → Cues i s work r left → Cues i s' work' r' left' → CuePassed i s (length work)
         → SameOutcome i r left out trace r' left' out₀ trace₀
     cue_accepted true e d d' p =
@@ -336,7 +351,8 @@ module _ (i : Instrument) (s : Session) (work : List Float) (s' : Session) (work
                 cues = a.cues;
                 piano = ap (λ (x : State). x.piano) same_ran;
                 memory = front_same W s.cues work work' left left' a.memory p.room ran.cells ran'.cells (ap (λ (x : State). x.cells) same_ran)
-                    (run_cells i p.sound (score_of s) start (q - start) (held_at i s work start) (held_length i s work start a.four p.sound p.room)) d.memory d'.memory;
+                    (run_cells i p.sound (score_of s) start (q - start) (held_at i s work start)
+                    (held_length i s work start a.four p.sound p.room)) d.memory d'.memory;
                 long = a.long;
                 long' = a.long';
                 four = a.four;
@@ -374,7 +390,8 @@ module _ (i : Instrument) (s : Session) (work : List Float) (s' : Session) (work
                 score = f;
                 cues = drop_same i.key_count q a.cues;
                 piano = ap (λ (x : State). x.piano) same;
-                memory = front_same W (map (drop_above q) s.cues) work work' left left' (fewer_same W q s.cues work work' a.memory) p.room held.cells held'.cells
+                memory = front_same W (map (drop_above q) s.cues) work work' left left'
+                    (fewer_same W q s.cues work work' a.memory) p.room held.cells held'.cells
                     (ap (λ (x : State). x.cells) same)
                     (held_length i s work t' a.four p.sound p.room) d.memory d'.memory;
                 long = l;
@@ -409,7 +426,8 @@ module _ (i : Instrument) (s : Session) (work : List Float) (s' : Session) (work
         let there = passed.there in
         let there' : index < s'.count = omega (arith, there, a.number) in
         let few' : s'.count ≤ 64 = omega (arith, p.few, a.number) in
-        let at_q : (get_or (score_of s) index no_event).position ≡ (get_or (score_of s') index no_event).position = ap (λ l. (get_or l index no_event).position) a.score in
+        let at_q : (get_or (score_of s) index no_event).position ≡ (get_or (score_of s') index no_event).position
+        = ap (λ l. (get_or l index no_event).position) a.score in
         edit_accepted (get_or (score_of s') index no_event).position _ _ _ _ out trace out₀ trace₀ r r' left left' (rw at_q at d) d' p
         (ap (λ n. n - 1) a.number)
         (removed_score s index there p.few a.long ∙ ap (λ l. removed l index) a.score ∙ sym (removed_score s' index there' few' a.long'))
@@ -427,7 +445,7 @@ module _ (i : Instrument) (s : Session) (work : List Float) (s' : Session) (work
   same_call (Call.remove index) out trace out₀ trace₀ r r' left left' out₁ trace₁ out₂ trace₂ h h' = same_remove index out₁ trace₁ out₂ trace₂ r r' left left' h h'
 
   -- ---- energies
-  pub same_energies : (r r' : EnergiesAnswer) → EnergiesMeet i s work r → EnergiesMeet i s' work' r' → r ≡ r'
+  pub same_energies : (r r' : Result Energies Refusal) → EnergiesMeet i s work r → EnergiesMeet i s' work' r' → r ≡ r'
   same_energies r r' h h' = first_part_decides i s' work work' r r' a.memory.cells a.memory.now moved h'
     where
       number : record_refusal i s (length work) ≡ record_refusal i s' (length work)
@@ -450,6 +468,7 @@ same_next i r r' left left' out trace out' trace' t rest =
 pub same_runs : (i : Instrument) {s s' s₁ s₂ : Session} {work work' work₁ work₂ : List Float} {cs : List Call} {rs rs' : List Reply}
     → Runs i s work cs rs s₁ work₁ → Runs i s' work' cs rs' s₂ work₂ → Alike i s work s' work' → (rs ≡ rs') × Alike i s₁ work₁ s₂ work₂
 same_runs i Runs.done Runs.done a = (refl, a)
-same_runs i (Runs.next {s = s} {work = work} c out trace r left out₁ trace₁ h rest) (Runs.next {s = s'} {work = work'} _ out₀ trace₀ r' left' out₂ trace₂ h' rest') a =
+same_runs i (Runs.next {s = s} {work = work} c out trace r left out₁ trace₁ h rest)
+    (Runs.next {s = s'} {work = work'} _ out₀ trace₀ r' left' out₂ trace₂ h' rest') a =
     same_next i r r' left left' out₁ trace₁ out₂ trace₂ (same_call i s work s' work' a c out trace out₀ trace₀ r r' left left' out₁ trace₁ out₂ trace₂ h h')
     (λ after. same_runs i rest rest' after)

@@ -1,4 +1,5 @@
--- A session's two arrays after a call: 64 places for events, of which the score is the first `count`, and 4 slots for cues, of which one is free where a cue is accepted. Assumes nothing.
+-- A session's two arrays after a call: 64 places for events, of which the score is the first `count`, and 4 slots for cues, of which one is
+-- free where a cue is accepted. Assumes nothing.
 use Rattle.std.specs.Prelude.{◌≡◌, false, List, ◌++◌, ℕ, ◌+◌, ◌-◌, ◌<◌, ◌≤◌, eqb, length, take, drop}
 use Rattle.std.proofs.Common.{◌∙◌, arith, lt-ltb, ltb-false, ltb-true, length-append, length-drop, take_at, length-take-le}
 use Rattle.score.specs.declared.TimedEvent.{TimedEvent}
@@ -39,7 +40,15 @@ module _ (s : Session) (index : ℕ) (there : index < s.count) (few : s.count �
 
   pub removed_long : length (removed (score_of s) index ++ drop (s.count - 1) s.events) ≡ 64
   removed_long =
-      omega (arith, length-append (removed (score_of s) index) (drop (s.count - 1) s.events), length-drop (s.count - 1) s.events, removed_size, long, few, there)
+      omega (
+        arith,
+        length-append (removed (score_of s) index) (drop (s.count - 1) s.events),
+        length-drop (s.count - 1) s.events,
+        removed_size,
+        long,
+        few,
+        there,
+      )
 
 -- a cue that is not kept yet and not refused finds a free slot
 pub free_slot_there : (t : ℕ) (cues : List Cue) → length cues ≡ 4 → is_in t (kept_of cues) ≡ false → others t (kept_of cues) < 4 → free_slot cues < 4

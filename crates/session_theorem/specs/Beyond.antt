@@ -60,7 +60,8 @@ module _ (i : Instrument) (s : Session) (work : List Float) (four : length s.cue
             four = rw k.0 (length-set s.cues slot _ ∙ four);
           }
 
-  edit_leaves : (q number : ℕ) (left : List TimedEvent) (r : Outcome) (work' : List Float) → Passed i s (length work) → Edits i s work q number left r work' → Leaves i work r work'
+  edit_leaves : (q number : ℕ) (left : List TimedEvent) (r : Outcome) (work' : List Float) → Passed i s (length work)
+      → Edits i s work q number left r work' → Leaves i work r work'
   edit_leaves q number left r work' p d =
       let t' = settled s.t (kept_by s) q in
       record {
@@ -68,7 +69,8 @@ module _ (i : Instrument) (s : Session) (work : List Float) (four : length s.cue
         four = rw d.session (length-map s.cues (drop_above q) ∙ four);
       }
 
-  call_leaves : (c : Call) (out trace : List Float) (r : Outcome) (work' out' trace' : List Float) → CallMeets i s work c out trace r work' out' trace' → Leaves i work r work'
+  call_leaves : (c : Call) (out trace : List Float) (r : Outcome) (work' out' trace' : List Float)
+      → CallMeets i s work c out trace r work' out' trace' → Leaves i work r work'
   call_leaves (Call.play scratch m n) out trace r work' out' trace' h =
       by_refusal _ r work' (λ z. let k = h.2.refuses z in (k.0, k.1))
       (λ z.

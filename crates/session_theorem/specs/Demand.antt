@@ -1,6 +1,6 @@
--- DEMAND 3, "The piano behind a cue": for every list of play, cue, go, insert and remove calls, refused ones included, from a session just opened. The statement is `demand_3`, at the
--- end; its words are in Runs.antt. Assumes nothing.
-use Rattle.std.specs.Prelude.{◌≡◌, refl, false, List, [], ℕ, zero, suc, ◌<◌, Float, length, take, get_or}
+-- DEMAND 3, "The piano behind a cue": for every list of play, cue, go, insert and remove calls, refused ones included, from a session just
+-- opened. The statement is `demand_3`, at the end; its words are in Runs.antt. Assumes nothing.
+use Rattle.std.specs.Prelude.{◌≡◌, refl, false, List, [], ℕ, zero, suc, ◌<◌, Float, length, take, get_or, Ok}
 use Rattle.std.proofs.Common.{sym, ◌∙◌, ap, arith}
 use Rattle.instrument.specs.declared.Instrument.{Instrument}
 use Rattle.instrument.specs.Work.{part_cells}
@@ -41,13 +41,14 @@ fresh_empty p (suc (suc (suc zero))) h = refl
 fresh_empty p (suc (suc (suc (suc j)))) h = absurd (omega arith)
 
 -- only an open that is not refused answers so
-not_refused : (i : Instrument) (work work' : List Float) (r : Outcome) → OpenMeets i work r work' → r.answer ≡ Opened → (n : ℕ) → open_refusal i (length work) ≡ n → n ≡ 0
+not_refused : (i : Instrument) (work work' : List Float) (r : Outcome) → OpenMeets i work r work' → r.answer ≡ Ok Opened → (n : ℕ)
+    → open_refusal i (length work) ≡ n → n ≡ 0
 not_refused i work work' r h e zero k = refl
 not_refused i work work' r h e (suc n) k =
     let x = ap (λ q. q.answer) (h.refuses (λ z. omega arith)).0 in
-    absurd (let z : ◌≡◌ {A = ℕ} 0 1 = cc (sym e ∙ x) in omega arith)
+    absurd (let z : ⊥ = cc (sym e ∙ x) in z)
 
-opened_stands : (i : Instrument) (work work' : List Float) (r : Outcome) → OpenMeets i work r work' → r.answer ≡ Opened → Stands i r.session work' opened
+opened_stands : (i : Instrument) (work work' : List Float) (r : Outcome) → OpenMeets i work r work' → r.answer ≡ Ok Opened → Stands i r.session work' opened
 unfolding count
 opened_stands i work work' r h e =
     let z : open_refusal i (length work) ≡ 0 = not_refused i work work' r h e (open_refusal i (length work)) refl in
@@ -85,10 +86,11 @@ stands_counts i s work p g =
 
 -- ---- the theorem
 
--- For every instrument and work memory with which open is accepted, and for every list of calls run from there, each by its function's contract: the replies are the plain
--- machine's, the program's session and memory are the plain machine's, the keys' contact counts add up to the Rust's one count, every refusal is from 9 to 16, each accepted go
--- replays no more than it must, and the events that act on a sample are those of document 01's rule, in the order of document 02's W1.
-pub demand_3 : (i : Instrument) (work work' : List Float) (r : Outcome) → OpenMeets i work r work' → r.answer ≡ Opened
+-- For every instrument and work memory with which open is accepted, and for every list of calls run from there, each by its function's
+-- contract: the replies are the plain machine's, the program's session and memory are the plain machine's, the keys' contact counts add up
+-- to the Rust's one count, every refusal is from 9 to 16, each accepted go replays no more than it must, and the events that act on a
+-- sample are those of document 01's rule, in the order of document 02's W1.
+pub demand_3 : (i : Instrument) (work work' : List Float) (r : Outcome) → OpenMeets i work r work' → r.answer ≡ Ok Opened
     → {cs : List Call} {rs : List Reply} {s : Session} {work'' : List Float} → Runs i r.session work' cs rs s work'' → Claim i cs rs s work''
 unfolding replies_to final_to
 demand_3 i work work' r h e {cs} {rs} t =
@@ -106,7 +108,8 @@ demand_3 i work work' r h e {cs} {rs} t =
     }
   where
     -- the list as a whole: its calls, one after the other, answer and leave what the machine's do
-    follows : {s s'' : Session} {left left'' : List Float} {calls : List Call} {answers : List Reply} → Runs i s left calls answers s'' left'' → (p : Machine) → Stands i s left p
+    follows : {s s'' : Session} {left left'' : List Float} {calls : List Call} {answers : List Reply} → Runs i s left calls answers s'' left''
+        → (p : Machine) → Stands i s left p
         → (answers ≡ replies i p calls) × Stands i s'' left'' (final i p calls)
     follows Runs.done p g = (refl, g)
     follows (Runs.next {s = s} {work = left} c out trace r left' out' trace' h rest) p g =

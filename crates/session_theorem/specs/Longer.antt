@@ -1,4 +1,5 @@
--- Document 02, W8, of the end that document 01 had and of the program as it is: a session record that passed 7 passes. Of a list of calls proofs/Longer.antt says the same. Assumes nothing.
+-- Document 02, W8, of the end that document 01 had and of the program as it is: a session record that passed 7 passes. Of a list of calls
+-- proofs/Longer.antt says the same. Assumes nothing.
 use Rattle.std.specs.Prelude.{◌≡◌, true, ℕ}
 use Rattle.std.proofs.Common.{arith}
 use Rattle.instrument.specs.declared.Instrument.{Instrument}

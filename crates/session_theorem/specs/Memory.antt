@@ -33,7 +33,8 @@ module _ (w : ℕ) (cells work work' : List Float) (e : work' ≡ cells ++ drop 
   front_beyond = ap (drop (5 * w)) e ∙ drop_past 0 w w cells work (zero-add w) size (omega arith) (5 * w) (omega arith)
 
 -- the part of slot f anew
-module _ (w f : ℕ) (cells work work' : List Float) (e : work' ≡ splice ((f + 1) * w) w cells work) (size : length cells ≡ w) (there : f < 4) (room : 5 * w ≤ length work) where
+module _ (w f : ℕ) (cells work work' : List Float) (e : work' ≡ splice ((f + 1) * w) w cells work) (size : length cells ≡ w) (there : f < 4)
+    (room : 5 * w ≤ length work) where
   fits : (f + 1) * w + w ≤ length work
   fits = slot_fits f w (length work) there room
 

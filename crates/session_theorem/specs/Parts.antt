@@ -1,7 +1,9 @@
--- Long calls in parts: what the parts give is what the whole gives. The program `rehearse` does a go of many samples as goes to places on its way, and a play that its output does not
--- hold whole as plays of fewer samples. Over the plain machine, which by demand 3 is what the program answers and leaves: the parts leave the machine that the whole leaves, their numbers
--- add up to its number, their samples and forces one after the other are its own, and a whole that is refused is refused at its first part. How: of a go from s to p, cut at q, the first
--- part starts at s too, and the rest at q, since every kept cue not above p is not above s; a play is cut as the render is. The rest can be cut again. Assumes nothing.
+-- Long calls in parts: what the parts give is what the whole gives. The program `rehearse` does a go of many samples as goes to places on
+-- its way, and a play that its output does not hold whole as plays of fewer samples. Over the plain machine, which by demand 3 is what the
+-- program answers and leaves: the parts leave the machine that the whole leaves, their numbers add up to its number, their samples and
+-- forces one after the other are its own, and a whole that is refused is refused at its first part. How: of a go from s to p, cut at q, the
+-- first part starts at s too, and the rest at q, since every kept cue not above p is not above s; a play is cut as the render is. The rest
+-- can be cut again. Assumes nothing.
 use Rattle.std.specs.Prelude.{◌≡◌, true, List, ◌∷◌, ◌++◌, ℕ, ◌+◌, ◌-◌, ◌<◌, ◌≤◌, Float, length}
 use Rattle.std.proofs.Common.{◌∙◌, inr, ⊎_elim, arith, lt-ltb, le-ltb, length-append}
 use Rattle.instrument.specs.declared.Instrument.{Instrument}
@@ -85,7 +87,8 @@ go_parts i m scratch q p from to e =
     let fine = go_passed i scratch p s e in
     let sum : p - s ≡ (q - s) + (p - q) = omega arith in
     let start : start_of q m.cues p ≡ q = start_next m.t m.cues q p from to in
-    let rest : go_refusal i scratch p (start_of q m.cues p) ≡ 0 = go_alike i scratch p p (start_of q m.cues p) s fine.1 (omega (arith, fine)) fine.1 fine.2 ∙ e in
+    let rest : go_refusal i scratch p (start_of q m.cues p) ≡ 0 = go_alike i scratch p p (start_of q m.cues p) s fine.1 (omega (arith, fine)) fine.1 fine.2
+    ∙ e in
     record {
       first = rw (go_parts_refused i m.t m.cues scratch q p from to fine.1 fine.2 ∙ e, start_first m.t m.cues q p from to);
       next = rw (rest, start);
@@ -100,14 +103,17 @@ go_parts i m scratch q p from to e =
 module _ (i : Instrument) (score : List TimedEvent) (t a b : ℕ) where
   samples_parts : block_samples i score t (a + b) ≡ block_samples i score t a ++ block_samples i score (t + a) b
   samples_parts =
-      rw (block_samples_lem i score t (a + b), block_samples_lem i score t a, block_samples_lem i score (t + a) b, render_then i score t a) (samples_then i score t a b (render_state i score t))
+      rw (block_samples_lem i score t (a + b), block_samples_lem i score t a, block_samples_lem i score (t + a) b, render_then i score t a)
+      (samples_then i score t a b (render_state i score t))
 
   forces_parts : block_forces i score t (a + b) ≡ block_forces i score t a ++ block_forces i score (t + a) b
   forces_parts =
-      rw (block_forces_lem i score t (a + b), block_forces_lem i score t a, block_forces_lem i score (t + a) b, render_then i score t a) (forces_then i score t a b (render_state i score t))
+      rw (block_forces_lem i score t (a + b), block_forces_lem i score t a, block_forces_lem i score (t + a) b, render_then i score t a)
+      (forces_then i score t a b (render_state i score t))
 
 -- with a trace that is long enough, and not beyond the end, two plays are refused alike: as 9 or not at all
-play_alike : (i : Instrument) (scratch t a n u b k : ℕ) → a ≤ n → t + a ≤ end → b ≤ k → u + b ≤ end → play_refusal i t scratch a n ≡ play_refusal i u scratch b k
+play_alike : (i : Instrument) (scratch t a n u b k : ℕ) → a ≤ n → t + a ≤ end → b ≤ k → u + b ≤ end
+    → play_refusal i t scratch a n ≡ play_refusal i u scratch b k
 play_alike i scratch t a n u b k ha hb hc hd = rw (le-ltb n a ha, le-ltb end (t + a) hb, le-ltb k b hc, le-ltb end (u + b) hd)
 
 -- A play of m samples that the output does not hold whole: the first call that `rehearse` makes for it is refused exactly as it is.
@@ -136,8 +142,8 @@ pub record PlayParts (i : Instrument) (m : Machine) (scratch a b n k trace C C' 
   -- what lets the rest be cut again
   pub rest : play_refusal i (m.t + a) scratch b k ≡ 0
 
--- a play of a + b samples that is not refused: the parts leave what the whole leaves, their numbers add up to its number, the last one's contacts are its own, and so are their samples and
--- forces one after the other
+-- a play of a + b samples that is not refused: the parts leave what the whole leaves, their numbers add up to its number, the last one's
+-- contacts are its own, and so are their samples and forces one after the other
 pub play_parts : (i : Instrument) (m : Machine) (scratch a b n k trace : ℕ) → a ≤ n → b ≤ k → play_refusal i m.t scratch (a + b) trace ≡ 0
     → PlayParts i m scratch a b n k trace (render_contacts i m.score (m.t + a)) (render_contacts i m.score (m.t + (a + b)))
     (block_samples i m.score m.t a) (block_samples i m.score (m.t + a) b)
@@ -151,6 +157,12 @@ play_parts i m scratch a b n k trace ha hb e =
     record {
       first = rw fits;
       next = rw (rest, there);
-      whole = rw (e, samples_parts i m.score m.t a b, forces_parts i m.score m.t a b, length-append (block_forces i m.score m.t a) (block_forces i m.score (m.t + a) b));
+      whole = rw (
+        e,
+        samples_parts i m.score m.t a b,
+        forces_parts i m.score m.t a b,
+        length-append (block_forces i m.score m.t a)
+            (block_forces i m.score (m.t + a) b),
+      );
       rest = rest;
     }

@@ -1,6 +1,7 @@
--- "None of them can alter an answer": what document 01 leaves free decides nothing, nor what lies past the counts of a session, "a handed-in record, whose fields are open", nor the contact
--- counts of places past the instrument's keys. Here: which sessions with work memories agree but for these. That they get the same replies from every list of calls, and
--- agree again afterwards, is proved in proofs/Past.antt. Definitions only: assumes nothing.
+-- "None of them can alter an answer": what document 01 leaves free decides nothing, nor what lies past the counts of a session, "a
+-- handed-in record, whose fields are open", nor the contact counts of places past the instrument's keys. Here: which sessions with work
+-- memories agree but for these. That they get the same replies from every list of calls, and agree again afterwards, is proved in
+-- proofs/Past.antt. Definitions only: assumes nothing.
 use Rattle.std.specs.Prelude.{◌≡◌, List, [], ◌∷◌, Float, take, get_or}
 use Rattle.std.proofs.Math.Bool.{true, false}
 use Prim.Native.Nat.{ℕ, ◌+◌, ◌*◌, ◌<◌}
@@ -21,13 +22,15 @@ pub data SameCues (keys : ℕ) : List Cue → List Cue → Type 0 where
   kept : {c d : Cue} {a b : List Cue} → cue_of_keys keys c ≡ cue_of_keys keys d → SameCues keys a b → SameCues keys (c ∷ a) (d ∷ b)
   free : {c d : Cue} {a b : List Cue} → c.kept ≡ false → d.kept ≡ false → SameCues keys a b → SameCues keys (c ∷ a) (d ∷ b)
 
--- two work memories, as long as each other, with the same first part and the same part for each kept cue; parts of slots that keep none, and cells beyond the five parts, may differ
+-- two work memories, as long as each other, with the same first part and the same part for each kept cue; parts of slots that keep none,
+-- and cells beyond the five parts, may differ
 pub record SameMemory (w : ℕ) (cues : List Cue) (work work' : List Float) : Type 0 where
   pub cells : length work ≡ length work'
   pub now : take w work ≡ take w work'
   pub held : (j : ℕ) (d : Cue) → j < length cues → (get_or cues j d).kept ≡ true → part ((j + 1) * w) w work ≡ part ((j + 1) * w) w work'
 
--- two sessions, each with its work memory, that agree up to their counts; events past the count, slots that keep no cue, and contact counts of places past the instrument's keys may differ
+-- two sessions, each with its work memory, that agree up to their counts; events past the count, slots that keep no cue, and contact counts
+-- of places past the instrument's keys may differ
 pub record Alike (i : Instrument) (s : Session) (work : List Float) (s' : Session) (work' : List Float) : Type 0 where
   pub position : s.t ≡ s'.t
   pub number : s.count ≡ s'.count

@@ -1,6 +1,8 @@
--- Document 02, W2, "a count for each key": a piano has 16 places for counts, and those past the instrument's keys decide nothing. No event reads a count, a sample only the one that it
--- raises, and the sum, with it refusal 7, only the keys'. States alike but for those places run to states alike but for them, with the same samples and forces. Assumes nothing.
-use Rattle.std.specs.Prelude.{◌≡◌, Bool, cond, ltb, take, get_or}
+-- Document 02, W2, "a count for each key": a piano has 16 places for counts, and those past the instrument's keys decide nothing. No event
+-- reads a count, a sample only the one that it raises, and the sum, with it refusal 7, only the keys'. States alike but for those places
+-- run to states alike but for them, with the same samples and forces. Assumes nothing.
+use Rattle.std.specs.Prelude.{◌≡◌, Bool, cond, ltb, take, get_or, Option, None, Some}
+use Rattle.std.specs.Option.{unwrap_or, option_map}
 use Rattle.std.proofs.Math.Path.{refl, sym, ap}
 use Rattle.std.proofs.Common.{◌∙◌, arith}
 use Rattle.std.proofs.Math.Logic.{⊎_elim}
@@ -13,8 +15,7 @@ use Rattle.std.proofs.Math.Seq.{take-set-lt, get_or-take, set_out}
 use Rattle.counting.specs.Laws.{lt_or_ge, sum_cong}
 use Rattle.instrument.specs.declared.Instrument.{Instrument}
 use Rattle.instrument.specs.KeyIndex.{key_index}
-use Rattle.points.specs.declared.HammerState.{HammerState}
-use Rattle.points.specs.declared.HammerState.TheVariants.{Resting, Flying}
+use Rattle.points.specs.declared.Flight.{Flight}
 use Rattle.sample.specs.Sample.{counted_for}
 use Rattle.sample_constants.specs.Model.{strings_of}
 use Rattle.score.specs.declared.Event.{Event}
@@ -76,14 +77,17 @@ module _ (keys : ℕ) where
       rw (kept, position, same_sound_piano d.position c.piano d.piano (ap (λ (y : Cue). y.piano) e)) refl
 
   -- a sample in contact raises one count, and reads that one alone: a key's is in either list, and one past the keys is cut off
-  counted_of_keys : (h : HammerState) (contact : Bool) (counts : List ℕ) → counted_for h contact (take keys counts) ≡ take keys (counted_for h contact counts)
+  counted_of_keys : (h : Option Flight) (contact : Bool) (counts : List ℕ) → counted_for h contact (take keys counts) ≡ take keys (counted_for h contact counts)
   unfolding counted_for
-  counted_of_keys Resting contact counts = refl
-  counted_of_keys (Flying k y v) false counts = refl
-  counted_of_keys (Flying k y v) true counts =
+  counted_of_keys None contact counts = refl
+  counted_of_keys (Some h) false counts = refl
+  counted_of_keys (Some h) true counts =
+      let k = h.key_index in
+      let more = get_or counts k 0 + 1 in
       ⊎_elim
-      (λ (low : k < keys). rw (get_or-take keys counts k 0 low) (sym (take-set-lt keys counts k (get_or counts k 0 + 1) low)))
-      (λ (past : keys ≤ k). set_out (take keys counts) k _ (omega (arith, past, length-take keys counts)) ∙ sym (take-set-le keys counts k (get_or counts k 0 + 1) past))
+      (λ (low : k < keys). rw (get_or-take keys counts k 0 low) (sym (take-set-lt keys counts k more low)))
+      (λ (past : keys ≤ k).
+      set_out (take keys counts) k _ (omega (arith, past, length-take keys counts)) ∙ sym (take-set-le keys counts k more past))
       (lt_or_ge k keys)
 
 -- ---- a sample, and a run of them
@@ -97,20 +101,23 @@ module _ (i : Instrument) where
       → on_key i x f (state_of_keys keys s) ≡ state_of_keys keys (on_key i x f s)
   on_key_of_keys x f s h = let k = key_index i.keys 0 keys x in by_test k (ltb k keys)
     where
-      by_test : (k : ℕ) (b : Bool) → cond b (f k (state_of_keys keys s)) (state_of_keys keys s) ≡ state_of_keys keys (cond b (f k s) s)
+      by_test : (k : ℕ) (b : Bool) → unwrap_or (option_map (λ j. f j (state_of_keys keys s)) (cond b (Some k) None)) (state_of_keys keys s)
+          ≡ state_of_keys keys (unwrap_or (option_map (λ j. f j s) (cond b (Some k) None)) s)
       by_test k true = h k
       by_test k false = refl
 
   -- no event reads a count
   applied_of_keys : (e : Event) (s : State) → applied i (strings_of i) e (state_of_keys keys s) ≡ state_of_keys keys (applied i (strings_of i) e s)
   unfolding applied struck_key held_to hand_damped pedal_to
-  applied_of_keys (NoteOn x v) s = on_key_of_keys x (λ k s. record { piano = struck_key k v s.piano; cells = cleared_all k (strings_of i) s.cells }) s (λ k. refl)
+  applied_of_keys (NoteOn x v) s = on_key_of_keys x (λ k s. record { piano = struck_key k v s.piano; cells = cleared_all k (strings_of i) s.cells }) s
+      (λ k. refl)
   applied_of_keys (NoteOff x) s = on_key_of_keys x (λ k s. record { piano = held_to false k s.piano; cells = s.cells }) s (λ k. refl)
   applied_of_keys (Pedal b) s = refl
   applied_of_keys (HandDamp x) s = on_key_of_keys x (λ k s. record { piano = hand_damped k s.piano; cells = s.cells }) s (λ k. refl)
 
   -- nor do any, one after the other
-  apply_all_of_keys : (es : List Event) (s : State) → apply_all i (strings_of i) es (state_of_keys keys s) ≡ state_of_keys keys (apply_all i (strings_of i) es s)
+  apply_all_of_keys : (es : List Event) (s : State)
+      → apply_all i (strings_of i) es (state_of_keys keys s) ≡ state_of_keys keys (apply_all i (strings_of i) es s)
   unfolding apply_all
   apply_all_of_keys [] s = refl
   apply_all_of_keys (e ∷ es) s = ap (apply_all i (strings_of i) es) (applied_of_keys e s) ∙ apply_all_of_keys es (applied i (strings_of i) e s)
@@ -127,7 +134,8 @@ module _ (i : Instrument) where
       rw (apply_all_of_keys es s, counted_of_keys keys acted.piano.motion.hammer (sample_with i es t s).contact acted.piano.contact_samples) refl
 
   -- from states alike but for counts past the keys, a sample of a score leaves such states, and gives the same output and force
-  same_sample : (score : List TimedEvent) (t : ℕ) (s s' : State) → SameState i s s' → stepped_of_keys (sample_at i score t s) ≡ stepped_of_keys (sample_at i score t s')
+  same_sample : (score : List TimedEvent) (t : ℕ) (s s' : State) → SameState i s s'
+      → stepped_of_keys (sample_at i score t s) ≡ stepped_of_keys (sample_at i score t s')
   same_sample score t s s' e = sym (sample_of_keys (events_at score t) t s) ∙ ap (sample_at i score t) e ∙ sample_of_keys (events_at score t) t s'
 
   module _ (score : List TimedEvent) (t : ℕ) (s s' : State) (e : SameState i s s') where

@@ -1,6 +1,7 @@
--- Document 02, W7: "scratch content still decides nothing". A call's promise has none of scratch's cells; it has their number, and of that whether 9 refuses it. What else the promise has
--- fixes all that the call leaves. So the same calls on one session and work memory, at each of them with enough scratch in both runs or too little in both, get the same replies and leave the
--- same session and the same work memory, cell for cell, whatever stood in scratch, and in output and trace. Assumes nothing.
+-- Document 02, W7: "scratch content still decides nothing". A call's promise has none of scratch's cells; it has their number, and of that
+-- whether 9 refuses it. What else the promise has fixes all that the call leaves. So the same calls on one session and work memory, at each
+-- of them with enough scratch in both runs or too little in both, get the same replies and leave the same session and the same work memory,
+-- cell for cell, whatever stood in scratch, and in output and trace. Assumes nothing.
 use Rattle.std.specs.Prelude.{◌≡◌, refl, Bool, true, false, List, [], ◌∷◌, ℕ, Float, length, take}
 use Rattle.std.proofs.Common.{sym, ◌∙◌, ap}
 use Rattle.counting.specs.Meets.{meets_both}
@@ -28,7 +29,8 @@ with_scratch n (Call.remove index) = Call.remove index
 -- two lists of the same calls: what each lends of scratch is enough in both, or in neither
 pub data SameButScratch (i : Instrument) : List Call → List Call → Type 0 where
   done : SameButScratch i [] []
-  next : {cs cs' : List Call} (c : Call) (a b : ℕ) → scratch_test i a ≡ scratch_test i b → SameButScratch i cs cs' → SameButScratch i (with_scratch a c ∷ cs) (with_scratch b c ∷ cs')
+  next : {cs cs' : List Call} (c : Call) (a b : ℕ) → scratch_test i a ≡ scratch_test i b → SameButScratch i cs cs'
+      → SameButScratch i (with_scratch a c ∷ cs) (with_scratch b c ∷ cs')
 
 -- what a call leaves, twice: its answer with the session, work memory, and its reply
 pub record LeavesSame (r : Outcome) (work out trace : List Float) (r' : Outcome) (work' out' trace' : List Float) : Type 0 where

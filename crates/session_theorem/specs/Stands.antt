@@ -1,4 +1,5 @@
--- What stands between two calls: the program follows the machine, which is sound; so 7 and 8 do not come, and every held state is the render's. Assumes nothing.
+-- What stands between two calls: the program follows the machine, which is sound; so 7 and 8 do not come, and every held state is the
+-- render's. Assumes nothing.
 use Rattle.std.specs.Prelude.{◌≡◌, true, ◌⊎◌, List, ◌∷◌, ℕ, ◌*◌, ◌<◌, ◌≤◌, Float, length}
 use Rattle.std.proofs.Common.{sym, ◌∙◌, ap, ⊎_elim, arith, eqb-true}
 use Rattle.std.proofs.lemmas.Bool.{eqb-false}
@@ -47,9 +48,11 @@ module _ (i : Instrument) (s : Session) (work : List Float) (p : Machine) (g : S
         room = g.room;
       })
     where
-      cue_fine : (j : ℕ) → j < length s.cues → (cue_at s j).kept ≡ true → ((cue_at s j).position ≤ end) × (sound_piano i.key_count (cue_at s j).position (cue_at s j).piano ≡ true)
+      cue_fine : (j : ℕ) → j < length s.cues → (cue_at s j).kept ≡ true
+          → ((cue_at s j).position ≤ end) × (sound_piano i.key_count (cue_at s j).position (cue_at s j).piano ≡ true)
       cue_fine j l k =
-          let m : is_in (cue_at s j).position p.cues ≡ true = sym (in_same (cue_at s j).position (kept_by s) p.cues f.cues) ∙ kept_in s.cues j (empty_cue s.piano) l k in (
+          let m : is_in (cue_at s j).position p.cues ≡ true = sym (in_same (cue_at s j).position (kept_by s) p.cues f.cues)
+          ∙ kept_in s.cues j (empty_cue s.piano) l k in (
             g.machine.below (cue_at s j).position m,
             rendered_sound i p.score (cue_at s j).position (state_cue i s work j) (f.held j (omega (arith, g.four)) k),
           )
@@ -67,7 +70,8 @@ module _ (i : Instrument) (s : Session) (work : List Float) (p : Machine) (g : S
       ⊎_elim
       (λ (z : x ≡ 0). sym (ap (render_state i p.score) z ∙ render_zero i p.score))
       (λ (z : is_in x (s.t ∷ kept_by s) ≡ true).
-      ⊎_elim (λ (y : x ≡ s.t). absurd (eqb-false x s.t a y)) (λ (y : is_in x (kept_by s) ≡ true). true_or_false (is_in x (kept_by s)) y b) (in_cases x s.t (kept_by s) z))
+      ⊎_elim (λ (y : x ≡ s.t). absurd (eqb-false x s.t a y)) (λ (y : is_in x (kept_by s) ≡ true). true_or_false (is_in x (kept_by s)) y b)
+      (in_cases x s.t (kept_by s) z))
       m)
 
   pub score_length : length p.score ≡ s.count

@@ -1,11 +1,13 @@
 -- One call: the program that follows the machine follows it after the call too, and gives the machine's reply. Assumes nothing.
-use Rattle.std.specs.Prelude.{◌≡◌, Bool, true, false, cond, not, ◌⊎◌, List, ◌∷◌, ◌++◌, map, ℕ, zero, suc, ◌+◌, ◌-◌, ◌*◌, ◌<◌, ◌≤◌, eqb, leb, ltb, Float, take, get_or, set}
+use Rattle.std.specs.Prelude.{◌≡◌, Bool, true, false, cond, not, ◌⊎◌, List, ◌∷◌, ◌++◌, map, ℕ, zero, suc, ◌+◌, ◌-◌, ◌*◌, ◌<◌, ◌≤◌, eqb, leb, ltb}
+use Rattle.std.specs.Prelude.{Float, take, get_or, set}
 use Rattle.std.proofs.Math.Path.{refl, sym, ap}
 use Rattle.std.proofs.Common.{◌∙◌, inl, inr, ⊎_elim, arith, add-sub_of_le, eqb-true, leb-true, length-set, length-take-le, get_or-set_same, get_or-set_other}
 use Rattle.std.proofs.lemmas.Bool.{eqb-false}
 use Rattle.std.proofs.Math.ListN.{length, drop, get_or-map}
 use Rattle.std.proofs.lemmas.List.{length-map}
 use Rattle.std.proofs.Math.Seq.{drop_at}
+use Rattle.refusal.specs.Refusal.{number_of, numbered}
 use Rattle.cells.specs.Splice.{part}
 use Rattle.instrument.specs.declared.Instrument.{Instrument}
 use Rattle.instrument.specs.Work.{part_cells}
@@ -16,11 +18,11 @@ use Rattle.score.specs.Score.{no_event, events_at}
 use Rattle.score.specs.Contacts.{contacts_of}
 use Rattle.render.specs.Render.{run, samples, forces, silence, render_state, render_samples, render_forces, render_contacts}
 use Rattle.render.specs.Laws.{samples_length, render_then, render_local, render_samples_lem, render_forces_lem, render_sum}
-use Rattle.positions.specs.Positions.{others, count, is_in, up_to, greatest}
+use Rattle.positions.specs.Positions.{end, others, count, is_in, up_to, greatest}
 use Rattle.positions.specs.Laws.{and_true, same_cons, same_up_to, in_front, in_cons, in_same, in_up_to, greatest_same, greatest_member, greatest_up_to}
-use Rattle.score_edits.specs.Edits.{placed, removed}
+use Rattle.score_edits.specs.Edits.{placed, removed, sound_velocity}
 use Rattle.score_edits.specs.Laws.{placed_before, removed_before}
-use Rattle.machine.specs.Refusals.{or_else, play_refusal, cue_refusal, go_refusal, insert_refusal, remove_refusal}
+use Rattle.machine.specs.Refusals.{refuse_if, or_else, scratch_cells, play_refusal, cue_refusal, go_refusal, insert_refusal, remove_refusal}
 use Rattle.machine.specs.Machine.{Machine, Call, Reply, start_of, settled, edit, unless, does, does_to, block_samples, block_forces}
 use Rattle.machine.specs.Laws.{SoundMachine, sound_does, settled_low, insert_passed, remove_passed}
 use Rattle.session_cues.specs.declared.Cue.{Cue}
@@ -30,21 +32,41 @@ use Rattle.session_record.specs.declared.Session.{Session}
 use Rattle.session_record.specs.Record.{score_of, play_number, cue_number, go_number, insert_number, remove_number}
 use Rattle.session_record.specs.Laws.{passed_cue}
 use Rattle.session.specs.declared.Outcome.{Outcome}
-use Rattle.session.specs.Calls.{kept_by, empty_cue, cue_at, state_now, held_at, refused_with, Plays, PlayMeets, Cues, CueMeets, Goes, GoMeets, Edits, InsertMeets, RemoveMeets}
+use Rattle.session.specs.Calls.{kept_by, empty_cue, cue_at, state_now, held_at, refused_with, Plays, PlayMeets, Cues, CueMeets, Goes, GoMeets, Edits}
+use Rattle.session.specs.Calls.{InsertMeets, RemoveMeets}
 use Rattle.session.specs.Laws.{get_any, rendered_length}
 use Rattle.session_theorem.specs.Runs.{reply_of, CallMeets, Follows}
 use Rattle.session_theorem.specs.Arrays.{placed_score, placed_long, removed_score, removed_long, free_slot_there}
 use Rattle.session_theorem.specs.Memory.{front_now, front_cue, front_length, slot_now, slot_new, slot_other, slot_length}
 use Rattle.session_theorem.specs.Stands.{Stands, standing_passes, held_render, score_length}
 
+-- a machine's number that is not 0 is that of a refusal, so that the answer names it
+abbrev Named : ℕ → Type 0
+Named m = (m ≡ 0 → ⊥) → number_of (numbered m) ≡ m
+
+named_test : (b : Bool) (n : ℕ) → number_of (numbered n) ≡ n → Named (refuse_if b n)
+named_test true n h z = h
+named_test false n h z = absurd (z refl)
+
+named_else : (a b : ℕ) → Named a → Named b → Named (or_else a b)
+named_else zero b h g = g
+named_else (suc a) b h g = h
+
+named_three : (a b c : Bool) (x y z : ℕ) → number_of (numbered x) ≡ x → number_of (numbered y) ≡ y → number_of (numbered z) ≡ z
+    → Named (or_else (refuse_if a x) (or_else (refuse_if b y) (refuse_if c z)))
+named_three a b c x y z hx hy hz =
+    named_else (refuse_if a x) _ (named_test a x hx) (named_else (refuse_if b y) _ (named_test b y hy) (named_test c z hz))
+
 -- a call by its refusal: `n` is the contract's, `m` the machine's
-by_refusal : (i : Instrument) (s : Session) (work : List Float) (p : Machine) (n m : ℕ) (done : Machine × Reply) (r : Outcome) (work' out trace : List Float) → Stands i s work p → n ≡ m
+by_refusal : (i : Instrument) (s : Session) (work : List Float) (p : Machine) (n m : ℕ) → Named m
+    → (done : Machine × Reply) (r : Outcome) (work' out trace : List Float) → Stands i s work p → n ≡ m
     → ((n ≡ 0 → ⊥) → (r ≡ refused_with s n) × (work' ≡ work)) → (n ≡ 0 → Stands i r.session work' done.0 × (reply_of r.answer out trace ≡ done.1))
     → Stands i r.session work' (unless m p done).0 × (reply_of r.answer out trace ≡ (unless m p done).1)
-by_refusal i s work p n zero done r work' out trace g e refuses accepts = accepts e
-by_refusal i s work p n (suc m) done r work' out trace g e refuses accepts =
+by_refusal i s work p n zero named done r work' out trace g e refuses accepts = accepts e
+by_refusal i s work p n (suc m) named done r work' out trace g e refuses accepts =
     let h = refuses (λ z. omega arith) in
-    (rw (h.0, h.1) g, ap (λ q. reply_of q.answer out trace) h.0 ∙ ap Reply.refused e)
+    let same : number_of (numbered n) ≡ suc m = ap (λ k. number_of (numbered k)) e ∙ named (λ z. omega arith) in
+    (rw (h.0, h.1) g, ap (λ q. reply_of q.answer out trace) h.0 ∙ ap Reply.refused same)
 
 -- the contract's refusal is the machine's, since 7 and 8 do not come
 refusal_same : (a b c : ℕ) → a ≡ 0 → b ≡ c → or_else a b ≡ c
@@ -54,7 +76,8 @@ refusal_same a b c e f = rw e f
 pub greatest_held : (q : ℕ) (l : List ℕ) → (greatest (up_to q l) ≡ 0) ⊎ (is_in (greatest (up_to q l)) l ≡ true)
 greatest_held q l =
     ⊎_elim (λ (z : greatest (up_to q l) ≡ 0). inl z)
-    (λ (z : is_in (greatest (up_to q l)) (up_to q l) ≡ true). inr (sym (in_up_to q (greatest (up_to q l)) l (greatest_up_to q l)) ∙ z)) (greatest_member (up_to q l))
+    (λ (z : is_in (greatest (up_to q l)) (up_to q l) ≡ true). inr (sym (in_up_to q (greatest (up_to q l)) l (greatest_up_to q l)) ∙ z))
+    (greatest_member (up_to q l))
 
 -- a block is the run from the render's state at its start
 module _ (i : Instrument) (score : List TimedEvent) (t m : ℕ) where
@@ -73,7 +96,8 @@ module _ (i : Instrument) (score : List TimedEvent) (t m : ℕ) where
 -- a call that leaves the cues and their parts alone: the first part and t are new
 module _ (i : Instrument) (s s' : Session) (work work' : List Float) (p p' : Machine) (g : Stands i s work p) (m : SoundMachine p') (st : State)
     (here : s' ≡ record { t = p'.t; count = s.count; events = s.events; cues = s.cues; piano = st.piano })
-    (memory : work' ≡ st.cells ++ drop (part_cells i) work) (right : st ≡ render_state i p.score p'.t) (same_score : p'.score ≡ p.score) (same_cues : p'.cues ≡ p.cues) where
+    (memory : work' ≡ st.cells ++ drop (part_cells i) work) (right : st ≡ render_state i p.score p'.t) (same_score : p'.score ≡ p.score)
+    (same_cues : p'.cues ≡ p.cues) where
   size : length st.cells ≡ part_cells i
   size = ap (λ x. length x.cells) right ∙ rendered_length i g.instrument p.score p'.t
 
@@ -138,14 +162,17 @@ module _ (i : Instrument) (s : Session) (work : List Float) (p : Machine) (g : S
           rw (f.score, f.position, f.now, ← render_then i p.score p.t m) (render_sum i p.score (valid_counts i g.instrument).few_keys (p.t + m))
 
       play_reply : reply_of r.answer out' trace'
-          ≡ Reply.played (length (block_forces i p.score p.t m)) (render_contacts i p.score (p.t + m)) (block_samples i p.score p.t m) (block_forces i p.score p.t m)
+          ≡ Reply.played (length (block_forces i p.score p.t m)) (render_contacts i p.score (p.t + m)) (block_samples i p.score p.t m)
+          (block_forces i p.score p.t m)
       play_reply =
           rw (d.answer, front_now (length pushed) pushed _ trace' d.pushes refl, counted_is, pushed_is, sounded_is)
 
     play_step : Stands i r.session work' (does i p playing).0 × (reply_of r.answer out' trace' ≡ (does i p playing).1)
     unfolding does_to
     play_step =
-        by_refusal i s work p _ (play_refusal i p.t scratch m (length trace)) _ r work' out' trace' g play_same
+        by_refusal i s work p _ (play_refusal i p.t scratch m (length trace))
+        (named_three (ltb scratch (scratch_cells i)) (ltb (length trace) m) (ltb end (p.t + m)) 9 10 11 refl refl refl)
+        _ r work' out' trace' g play_same
         (λ n. let x = h.refuses n in (x.0, x.1))
         (λ z. let d = h.accepts z in (play_stands d (play_sound (sym play_same ∙ z)), play_reply d (play_sound (sym play_same ∙ z))))
       where
@@ -206,7 +233,8 @@ module _ (i : Instrument) (s : Session) (work : List Float) (p : Machine) (g : S
               score = rw here f.score;
               position = rw here f.position;
               cues = λ t. rw here
-                  (kept_set s.cues slot new (empty_cue s.piano) (omega (arith, g.four, slot_low)) (free_slot_free s.cues (empty_cue s.piano) (omega (arith, g.four, slot_low))) refl t
+                  (kept_set s.cues slot new (empty_cue s.piano) (omega (arith, g.four, slot_low))
+                  (free_slot_free s.cues (empty_cue s.piano) (omega (arith, g.four, slot_low))) refl t
                   ∙ ap (λ x. count t (x ∷ kept_by s)) f.position ∙ same_cons p.t (kept_by s) p.cues f.cues t);
               now = rw (here, slot_now (part_cells i) slot (take (part_cells i) work) work work' (d.adds absent).1 first slot_low g.room) f.now;
               held = λ j l k. rw here (slot_held j l (rw here at k));
@@ -228,11 +256,13 @@ module _ (i : Instrument) (s : Session) (work : List Float) (p : Machine) (g : S
     cue_step : Stands i r.session work' (does i p Call.cue).0 × (reply_of r.answer out trace ≡ (does i p Call.cue).1)
     unfolding does_to
     cue_step =
-        by_refusal i s work p _ (cue_refusal p.t p.cues) _ r work' out trace g cue_same h.refuses
+        by_refusal i s work p _ (cue_refusal p.t p.cues) (named_test (leb 4 (others p.t p.cues)) 15 refl) _ r work' out trace g cue_same h.refuses
         (λ z.
         let d = h.accepts z in
-        let m = sym cue_same ∙ z in
-        (cue_stands (is_in p.t p.cues) refl d (passed_cue i s (length work) z).free (rw m at (sound_does p g.machine i Call.cue)), ap (λ a. reply_of a out trace) d.answer))
+        let m = sym cue_same ∙ z in (
+          cue_stands (is_in p.t p.cues) refl d (passed_cue i s (length work) z).free (rw m at (sound_does p g.machine i Call.cue)),
+          ap (λ a. reply_of a out trace) d.answer,
+        ))
 
   -- ---- go
   module _ (scratch q : ℕ) (work' out trace : List Float) (r : Outcome) (h : GoMeets i s work scratch q r work') where
@@ -242,7 +272,8 @@ module _ (i : Instrument) (s : Session) (work : List Float) (p : Machine) (g : S
     start_same : start_of s.t (kept_by s) q ≡ start
     start_same =
         ap (λ t. start_of t (kept_by s) q) f.position
-        ∙ greatest_same (up_to q (p.t ∷ kept_by s)) (up_to q (p.t ∷ p.cues)) (same_up_to q (p.t ∷ kept_by s) (p.t ∷ p.cues) (same_cons p.t (kept_by s) p.cues f.cues))
+        ∙ greatest_same (up_to q (p.t ∷ kept_by s)) (up_to q (p.t ∷ p.cues))
+        (same_up_to q (p.t ∷ kept_by s) (p.t ∷ p.cues) (same_cons p.t (kept_by s) p.cues f.cues))
 
     go_same : go_number i s (length work) scratch q ≡ go_refusal i scratch q start
     go_same = refusal_same _ _ _ (standing_passes i s work p g) (ap (go_refusal i scratch q) start_same)
@@ -252,13 +283,17 @@ module _ (i : Instrument) (s : Session) (work : List Float) (p : Machine) (g : S
       go_stands =
           let x = start_of s.t (kept_by s) q in
           let low : x + (q - x) ≡ q = add-sub_of_le (greatest_up_to q (s.t ∷ kept_by s)) in
-          moved i s r.session work work' p (record { score = p.score; t = q; cues = p.cues }) g sound (run i (score_of s) x (q - x) (held_at i s work x)) d.session d.memory
-          (rw (f.score, held_render i s work p g x (greatest_held q (s.t ∷ kept_by s))) (sym (render_then i p.score x (q - x)) ∙ ap (render_state i p.score) low)) refl refl
+          moved i s r.session work work' p (record { score = p.score; t = q; cues = p.cues }) g sound
+          (run i (score_of s) x (q - x) (held_at i s work x)) d.session d.memory
+          (rw (f.score, held_render i s work p g x (greatest_held q (s.t ∷ kept_by s)))
+          (sym (render_then i p.score x (q - x)) ∙ ap (render_state i p.score) low)) refl refl
 
     go_step : Stands i r.session work' (does i p (Call.go scratch q)).0 × (reply_of r.answer out trace ≡ (does i p (Call.go scratch q)).1)
     unfolding does_to
     go_step =
-        by_refusal i s work p _ (go_refusal i scratch q start) _ r work' out trace g go_same h.refuses
+        by_refusal i s work p _ (go_refusal i scratch q start)
+        (named_three (ltb scratch (scratch_cells i)) (ltb end q) (ltb 1000000 (q - start)) 9 11 16 refl refl refl)
+        _ r work' out trace g go_same h.refuses
         (λ z.
         let d = h.accepts z in (
           go_stands d (rw (sym go_same ∙ z) at (sound_does p g.machine i (Call.go scratch q))),
@@ -276,10 +311,12 @@ module _ (i : Instrument) (s : Session) (work : List Float) (p : Machine) (g : S
     t_held : (settled s.t (kept_by s) q ≡ 0) ⊎ (is_in (settled s.t (kept_by s) q) (s.t ∷ kept_by s) ≡ true)
     t_held = go (ltb q s.t) refl
       where
-        go : (b : Bool) → ltb q s.t ≡ b → (cond b (greatest (up_to q (kept_by s))) s.t ≡ 0) ⊎ (is_in (cond b (greatest (up_to q (kept_by s))) s.t) (s.t ∷ kept_by s) ≡ true)
+        go : (b : Bool) → ltb q s.t ≡ b
+            → (cond b (greatest (up_to q (kept_by s))) s.t ≡ 0) ⊎ (is_in (cond b (greatest (up_to q (kept_by s))) s.t) (s.t ∷ kept_by s) ≡ true)
         go true e =
             ⊎_elim (λ (z : greatest (up_to q (kept_by s)) ≡ 0). inl z)
-            (λ (z : is_in (greatest (up_to q (kept_by s))) (kept_by s) ≡ true). inr (in_cons (greatest (up_to q (kept_by s))) s.t (kept_by s) z)) (greatest_held q (kept_by s))
+            (λ (z : is_in (greatest (up_to q (kept_by s))) (kept_by s) ≡ true). inr (in_cons (greatest (up_to q (kept_by s))) s.t (kept_by s) z))
+            (greatest_held q (kept_by s))
         go false e = inr (in_front s.t (kept_by s))
 
     render_alike : (x : ℕ) → x ≤ q → render_state i p.score x ≡ render_state i score' x
@@ -318,7 +355,10 @@ module _ (i : Instrument) (s : Session) (work : List Float) (p : Machine) (g : S
         }
       where
         slot_held : (j : ℕ) → j < 4 → (get_or (map (drop_above q) s.cues) j (empty_cue (held_at i s work t').piano)).kept ≡ true
-            → record { piano = (get_or (map (drop_above q) s.cues) j (empty_cue (held_at i s work t').piano)).piano; cells = part ((j + 1) * part_cells i) (part_cells i) work }
+            → record {
+              piano = (get_or (map (drop_above q) s.cues) j (empty_cue (held_at i s work t').piano)).piano;
+              cells = part ((j + 1) * part_cells i) (part_cells i) work;
+            }
             ≡ render_state i score' (get_or (map (drop_above q) s.cues) j (empty_cue (held_at i s work t').piano)).position
         slot_held j l k =
             let there : j < length (map (drop_above q) s.cues) = omega (arith, length-map s.cues (drop_above q), g.four) in
@@ -338,7 +378,9 @@ module _ (i : Instrument) (s : Session) (work : List Float) (p : Machine) (g : S
     insert_step : Stands i r.session work' (does i p (Call.insert e)).0 × (reply_of r.answer out trace ≡ (does i p (Call.insert e)).1)
     unfolding does_to
     insert_step =
-        by_refusal i s work p _ (insert_refusal (length p.score) e) (edit p (placed p.score e) e.position) r work' out trace g insert_same h.refuses
+        by_refusal i s work p _ (insert_refusal (length p.score) e)
+        (named_three (ltb end e.position) (leb 64 (length p.score)) (not (sound_velocity e.event)) 11 12 13 refl refl refl)
+        (edit p (placed p.score e) e.position) r work' out trace g insert_same h.refuses
         (λ z.
         let m = sym insert_same ∙ z in
         let d = h.accepts z in
@@ -361,7 +403,8 @@ module _ (i : Instrument) (s : Session) (work : List Float) (p : Machine) (g : S
     remove_step : Stands i r.session work' (does i p (Call.remove index)).0 × (reply_of r.answer out trace ≡ (does i p (Call.remove index)).1)
     unfolding does_to
     remove_step =
-        by_refusal i s work p _ (remove_refusal (length p.score) index) (edit p (removed p.score index) gone) r work' out trace g remove_same h.refuses
+        by_refusal i s work p _ (remove_refusal (length p.score) index)
+        (named_test (leb (length p.score) index) 14 refl) (edit p (removed p.score index) gone) r work' out trace g remove_same h.refuses
         (λ z.
         let m = sym remove_same ∙ z in
         let at_gone : (get_or (score_of s) index no_event).position ≡ gone = ap (λ l. (get_or l index no_event).position) f.score in

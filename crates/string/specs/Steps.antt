@@ -40,10 +40,12 @@ started_length d t p h =
     (stage_length d.filter.thiran_a (read_at (at_cR d) d.nc t p) (part (at_filter d) 2 p) ∙ part_length (at_filter d) 2 p (omega arith)) (omega arith)
     ∙ h
 
-pub rowed_length : (d : StringDesign) (k : ℕ) (u : Float) (p : List Float) → k ≤ 2 * d.ap_count → length p ≡ size_of d → length (rowed_to d k u p) ≡ size_of d
+pub rowed_length : (d : StringDesign) (k : ℕ) (u : Float) (p : List Float) → k ≤ 2 * d.ap_count → length p ≡ size_of d
+    → length (rowed_to d k u p) ≡ size_of d
 rowed_length d k u p hk h = row_at_length d.filter.ap_a u (at_row d) k p (omega arith) ∙ h
 
-pub finished_length : (d : StringDesign) (k : ℕ) (v : Float) (p : List Float) → k ≤ 2 * d.ap_count → length p ≡ size_of d → length (finished d k v p) ≡ size_of d
+pub finished_length : (d : StringDesign) (k : ℕ) (v : Float) (p : List Float) → k ≤ 2 * d.ap_count → length p ≡ size_of d
+    → length (finished d k v p) ≡ size_of d
 unfolding finished
 finished_length d k v p hk h =
     let n : length (filter_part d p) ≡ filter_size d = part_length (at_filter d) (filter_size d) p (omega arith) in

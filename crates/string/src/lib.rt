@@ -1,8 +1,8 @@
 // One string on its own part of the work memory: its six delay lines, its loop filter and its bridge end.
 #![tactic(auto)]
 
-ghost use Rattle.std.specs.Prelude.{◌≡◌, ◌+◌, ◌*◌, ◌%◌, ◌≤◌, ◌<◌, ◌^◌};
-ghost use Rattle.string.specs.String.{LaidOut, size_of, HasLines, Strung, IndicesAt};
+ghost use Rattle.std.specs.Prelude.{◌≡◌, ◌+◌, ◌*◌, ◌%◌, ◌≤◌, ◌<◌, ◌^◌, length};
+ghost use Rattle.string.specs.String.{LaidOut, size_of, HasLines, IndicesAt};
 ghost use Rattle.string.specs.String.{reads_of, v_in, filtered, point_writes, nut_write, bridge_write};
 ghost use Rattle.string.specs.Steps.{u_in, started, finished_out, finished};
 
@@ -25,6 +25,16 @@ pub struct Indices {
     pub a: usize,
     pub b: usize,
     pub c: usize,
+}
+
+// A string at sample t, with its lines' indices there. t is for the contracts alone: no code reads it.
+#[derive(Clone, Copy)]
+pub struct StringAt {
+    pub design: StringDesign,
+    pub indices: Indices,
+    pub t: u64,
+    pub ghost has_lines: { HasLines design },
+    pub ghost indices_at: { IndicesAt design t indices },
 }
 
 // What a sample reads of a string's lines besides the loop filter's input.
@@ -77,6 +87,28 @@ impl StringDesign {
             size: y_s + 2,
         }
     }
+
+    // The indices of its lines at sample t.
+    pub fn indices_at(self, t: u64) -> Indices
+        requires { HasLines self }
+        ensures { IndicesAt self t result }
+    {
+        Indices {
+            a: ring(t, self.na),
+            b: ring(t, self.nb),
+            c: ring(t, self.nc),
+        }
+    }
+
+    // The last of the loop filter's three steps, once the first k cells of the row are done: what is left.
+    pub fn finish_filter(self, part: &mut [f64], k: usize, v: f64) -> f64
+        requires all_cells { length part.old ≡ size_of self }
+        requires k_bound { k ≤ 2 * self.ap_count }
+        ensures { (result ≡ finished_out self k v part.old) × (part.new ≡ finished self k v part.old) }
+    {
+        let at = self.layout();
+        filter::finish(&mut part[at.filter..at.y_s], self.filter, k, v)
+    }
 }
 
 // The cell of a line of len cells that sample t reads and writes, by division.
@@ -97,107 +129,79 @@ fn next_index(idx: usize, len: usize, t: u64) -> usize
     if next == len { 0 } else { next }
 }
 
-// A string's indices at sample t.
-pub fn indices_of(d: StringDesign, t: u64) -> Indices
-    requires { HasLines d }
-    ensures { IndicesAt d t result }
-{
-    Indices {
-        a: ring(t, d.na),
-        b: ring(t, d.nb),
-        c: ring(t, d.nc),
+impl StringAt {
+    // The string's indices at the sample after t.
+    pub fn next_indices(self) -> Indices
+        ensures { IndicesAt self.design (self.t + 1) result }
+    {
+        let StringAt {
+            design: d,
+            indices: x,
+            t,
+        } = self;
+        Indices {
+            a: next_index(x.a, d.na, t),
+            b: next_index(x.b, d.nb, t),
+            c: next_index(x.c, d.nc, t),
+        }
     }
-}
 
-// A string's indices at the sample after t.
-pub fn next_indices(d: StringDesign, x: Indices, t: u64) -> Indices
-    requires has_lines { HasLines d }
-    requires indices_at { IndicesAt d t x }
-    ensures { IndicesAt d (t + 1) result }
-{
-    Indices {
-        a: next_index(x.a, d.na, t),
-        b: next_index(x.b, d.nb, t),
-        c: next_index(x.c, d.nc, t),
+    // Sample t's reads of the string.
+    pub fn read(self, part: &[f64]) -> Reads
+        requires all_cells { length part.now ≡ size_of self.design }
+        ensures { result ≡ reads_of self.design self.t part.now }
+    {
+        let at = self.design.layout();
+        let x = self.indices;
+        Reads {
+            a: part[x.a],
+            b: part[at.b_l + x.b],
+            c: part[at.b_r + x.b],
+            d: part[at.c_l + x.c],
+            x_nut: part[self.design.na + x.a],
+        }
     }
-}
 
-// Sample t's reads of one string.
-pub fn read_string(part: &[f64], d: StringDesign, x: Indices, t: u64) -> Reads
-    requires strung { Strung d part.now }
-    requires indices_at { IndicesAt d t x }
-    ensures { result ≡ reads_of d t part.now }
-{
-    let at = d.layout();
-    Reads {
-        a: part[x.a],
-        b: part[at.b_l + x.b],
-        c: part[at.b_r + x.b],
-        d: part[at.c_l + x.c],
-        x_nut: part[d.na + x.a],
+    // The writes behind the hammer's and the damper's point, and at the nut.
+    pub fn write(self, part: &mut [f64], r: Reads, inject_h: f64, inject_d: f64)
+        requires all_cells { length part.old ≡ size_of self.design }
+        ensures { part.new ≡ nut_write self.design self.t r (point_writes self.design self.t r inject_h inject_d part.old) }
+    {
+        let at = self.design.layout();
+        let x = self.indices;
+        part[at.b_r + x.b] = r.a + inject_h;
+        part[self.design.na + x.a] = r.b + inject_h;
+        part[at.c_r + x.c] = r.c + inject_d;
+        part[at.b_l + x.b] = r.d + inject_d;
+        part[x.a] = -r.x_nut;
     }
-}
 
-// The writes behind the hammer's and the damper's point, and at the nut.
-pub fn write_string(
-    part: &mut [f64],
-    d: StringDesign,
-    x: Indices,
-    t: u64,
-    r: Reads,
-    inject_h: f64,
-    inject_d: f64,
-)
-    requires strung { Strung d part.old }
-    requires indices_at { IndicesAt d t x }
-    ensures { part.new ≡ nut_write d t r (point_writes d t r inject_h inject_d part.old) }
-{
-    let at = d.layout();
-    part[at.b_r + x.b] = r.a + inject_h;
-    part[d.na + x.a] = r.b + inject_h;
-    part[at.c_r + x.c] = r.c + inject_d;
-    part[at.b_l + x.b] = r.d + inject_d;
-    part[x.a] = -r.x_nut;
-}
+    // The loop filter on what reaches the bridge.
+    pub fn filter(self, part: &mut [f64]) -> f64
+        requires all_cells { length part.old ≡ size_of self.design }
+        ensures { (result ≡ v_in self.design self.t part.old) × (part.new ≡ filtered self.design self.t part.old) }
+    {
+        let at = self.design.layout();
+        let v = part[at.c_r + self.indices.c];
+        filter::loop_filter(&mut part[at.filter..at.y_s], self.design.filter, v)
+    }
 
-// The loop filter on what reaches the bridge.
-pub fn filter_string(part: &mut [f64], d: StringDesign, x: Indices, t: u64) -> f64
-    requires strung { Strung d part.old }
-    requires indices_at { IndicesAt d t x }
-    ensures { (result ≡ v_in d t part.old) × (part.new ≡ filtered d t part.old) }
-{
-    let at = d.layout();
-    let v = part[at.c_r + x.c];
-    filter::loop_filter(&mut part[at.filter..at.y_s], d.filter, v)
-}
+    // The first of the loop filter's three steps: Thiran's stage on what reaches the bridge.
+    pub fn start_filter(self, part: &mut [f64]) -> f64
+        requires all_cells { length part.old ≡ size_of self.design }
+        ensures { (result ≡ u_in self.design self.t part.old) × (part.new ≡ started self.design self.t part.old) }
+    {
+        let at = self.design.layout();
+        let v = part[at.c_r + self.indices.c];
+        filter::allpass(&mut part[at.filter..at.row], self.design.filter.thiran_a, v)
+    }
 
-// The loop filter in two of its three steps: Thiran's stage on what reaches the bridge; and, once the first k cells of the row are done,
-// what is left.
-pub fn start_filter(part: &mut [f64], d: StringDesign, x: Indices, t: u64) -> f64
-    requires strung { Strung d part.old }
-    requires indices_at { IndicesAt d t x }
-    ensures { (result ≡ u_in d t part.old) × (part.new ≡ started d t part.old) }
-{
-    let at = d.layout();
-    let v = part[at.c_r + x.c];
-    filter::allpass(&mut part[at.filter..at.row], d.filter.thiran_a, v)
-}
-
-pub fn finish_filter(part: &mut [f64], d: StringDesign, k: usize, v: f64) -> f64
-    requires strung { Strung d part.old }
-    requires k_bound { k ≤ 2 * d.ap_count }
-    ensures { (result ≡ finished_out d k v part.old) × (part.new ≡ finished d k v part.old) }
-{
-    let at = d.layout();
-    filter::finish(&mut part[at.filter..at.y_s], d.filter, k, v)
-}
-
-// What the bridge sends back.
-pub fn bridge_string(part: &mut [f64], d: StringDesign, x: Indices, t: u64, v: f64)
-    requires strung { Strung d part.old }
-    requires indices_at { IndicesAt d t x }
-    ensures { part.new ≡ bridge_write d t v part.old }
-{
-    let at = d.layout();
-    part[at.c_l + x.c] = v;
+    // What the bridge sends back.
+    pub fn send_back(self, part: &mut [f64], v: f64)
+        requires all_cells { length part.old ≡ size_of self.design }
+        ensures { part.new ≡ bridge_write self.design self.t v part.old }
+    {
+        let at = self.design.layout();
+        part[at.c_l + self.indices.c] = v;
+    }
 }

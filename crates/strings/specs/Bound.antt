@@ -1,5 +1,5 @@
--- The bound of a contact's force (document 02, W6) summed over the strings: rounding keeps the order, so the forces' sum is at most the bounds', both added up string by
--- string from +0. Definitions, and the law.
+-- The bound of a contact's force (document 02, W6) summed over the strings: rounding keeps the order, so the forces' sum is at most the bounds',
+-- both added up string by string from +0. Definitions, and the law.
 use Rattle.std.specs.Prelude.{Option, List, ℕ, T, Float}
 use Rattle.std.proofs.Math.ListN.{get_or}
 use Rattle.std.specs.Float.{nan}

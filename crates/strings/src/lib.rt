@@ -6,7 +6,7 @@ ghost use Rattle.strings.specs.Strings.{AllFit, Indexed, cells_of, turned_all, f
 ghost use Rattle.float.specs.Float.{zero};
 
 use points::{Constants, Flight, ForceSum};
-use string::{Indices, StringDesign};
+use string::{Indices, StringAt, StringDesign};
 
 // The indices of the strings' lines at sample t, each by a division: once for a stretch of samples.
 pub fn first_indices(designs: &[StringDesign], indices: &mut [Indices], t: u64)
@@ -15,7 +15,7 @@ pub fn first_indices(designs: &[StringDesign], indices: &mut [Indices], t: u64)
     ensures { Indexed designs.now indices.new t }
 {
     for (i, d) in designs.iter().enumerate() {
-        indices[i] = string::indices_of(*d, t);
+        indices[i] = d.indices_at(t);
     }
 }
 
@@ -26,7 +26,12 @@ pub fn next_indices(designs: &[StringDesign], indices: &mut [Indices], t: u64)
     ensures { Indexed designs.now indices.new (t + 1) }
 {
     for (i, d) in designs.iter().enumerate() {
-        indices[i] = string::next_indices(*d, indices[i], t);
+        let s = StringAt {
+            design: *d,
+            indices: indices[i],
+            t,
+        };
+        indices[i] = s.next_indices();
     }
 }
 
@@ -54,16 +59,13 @@ pub fn strike_strings(
     };
     for (i, d) in designs.iter().enumerate() {
         let end = at + d.layout().size;
-        let f = points::strike_string(
-            &mut part[at..end],
-            c,
-            hammer,
-            *d,
-            damper_r[d.key],
-            indices[i],
+        let s = StringAt {
+            design: *d,
+            indices: indices[i],
             t,
-        );
-        sum = points::add_force(sum, f);
+        };
+        let f = points::strike_string(&mut part[at..end], c, hammer, s, damper_r[d.key]);
+        sum = sum.with(f);
         at = end;
     }
     sum
@@ -93,8 +95,13 @@ pub fn bridge_strings(
         let end = at + d.layout().size;
         let v = v_in[i];
         let y = v_b[d.key];
-        string::bridge_string(&mut part[at..end], *d, indices[i], t, y - v);
-        f_bridge = f_bridge + z * (2.0 * v - y);
+        let s = StringAt {
+            design: *d,
+            indices: indices[i],
+            t,
+        };
+        s.send_back(&mut part[at..end], y - v);
+        f_bridge += z * (2.0 * v - y);
         at = end;
     }
     f_bridge

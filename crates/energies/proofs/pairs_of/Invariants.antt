@@ -6,4 +6,4 @@ use Rattle.energies.specs.Steps.{pair_of}
 use Rattle.energies.proofs.pairs_of.Given as goal
 
 abbrev pub invariant-loop-k : goal.invariant-loop-k
-invariant-loop-k l = l.pairs ≡ pad 16 no_energy (tabulate l.k (pair_of l.instrument l.sums))
+invariant-loop-k l = l.pairs ≡ pad 16 no_energy (tabulate l.k (pair_of l.fn.instrument l.sums))

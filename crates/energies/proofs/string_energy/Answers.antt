@@ -5,6 +5,7 @@ use Rattle.energies.proofs.string_energy.Goals as goal
 pub returns : goal.returns
 unfolding string_energy sum_from
 returns c =
+    let lines = c.layout-b_r.ensures in
     rw (
       c.energy_at.ensures,
       c.energy_at-sum-5.ensures,
@@ -12,8 +13,8 @@ returns c =
       c.energy_at-sum-3.ensures,
       c.energy_at-sum-2.ensures,
       c.energy_at-sum.ensures,
-      c.at_c_l-c_l.ensures,
-      c.at_c_r-c_r.ensures,
-      c.at_b_l-b_l.ensures,
-      c.at_b_r-b_r.ensures,
+      lines.c_l,
+      lines.c_r,
+      lines.b_l,
+      lines.b_r,
     )

@@ -1,4 +1,4 @@
--- `keys::move_dampers` meets its contract. The loop's invariant: what is left to do gives what the whole loop gives (`Folded` of crate cells). Assumes nothing.
+-- `keys::move_dampers` meets its contract. The loop's invariant is `Folded` of crate cells: what is left to do gives the whole. Assumes nothing.
 use mathlib.Core.Path.{ap}
 use lib.ListN.{length, set}
 use lib.Ieee.{Float}

@@ -1,4 +1,4 @@
--- `keys::sum_keys` meets its contract. The loop's invariant: what is left to do gives what the whole loop gives (`Folded` of crate cells). Assumes nothing.
+-- `keys::sum_keys` meets its contract. The loop's invariant is `Folded` of crate cells: what is left to do gives the whole. Assumes nothing.
 use Prim.Native.Nat.{ℕ}
 use Rattle.cells.specs.Numbered.{Folded}
 use Rattle.string.specs.Table.{design_at}

@@ -1,4 +1,4 @@
--- `keys::weighted_total` meets its contract. The loop's invariant: what is left to do gives what the whole loop gives (`Folded` of crate cells). Assumes nothing.
+-- `keys::weighted_total` meets its contract. The loop's invariant is `Folded` of crate cells: what is left to do gives the whole. Assumes nothing.
 use Rattle.float.specs.Float.{zero as +0}
 use mathlib.Core.Path.{refl}
 use lib.ListN.{length}

@@ -10,9 +10,9 @@ unfolding struck
 returns c =
     let at = c.args in
     let l = c.layout-at.ensures in
-    let reads = c.read_string-r.ensures in
+    let reads = c.read-r.ensures in
     let touch = rw (l.y_s, l.memory) at c.feel-touch.ensures in
-    let cells = rw (l.y_s, l.memory) at c.write_string.ensures in (
-      ap (λ (x : Contact). x.force) touch ∙ ap (λ (r : Reads). (contact_at at.c at.hammer at.d r at.part.now).force) reads,
-      rw (← reads, ← touch, ← c.inject-inject_d.ensures) cells,
-    )
+    let cells = rw (l.y_s, l.memory) at c.write.ensures in record {
+      force = ap (λ (x : Contact). x.force) touch ∙ ap (λ (r : Reads). (contact_at at.c at.hammer at.s.design r at.part.now).force) reads;
+      cells = rw (← reads, ← touch, ← c.inject-inject_d.ensures) cells;
+    }

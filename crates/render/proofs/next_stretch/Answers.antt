@@ -1,11 +1,10 @@
--- `render::next_stretch` meets its contract: each call gives a field of `NextStretch`. The events act on the instrument's strings, since the tables hold them, and
+-- `render::next_stretch` meets its contract: each call gives a field of `NextStretch`. The events act on the instrument's strings, and
 -- no event lies before the one that `next_event` found. Assumes nothing.
 use mathlib.Core.Path.{◌≡◌, refl, sym, ap, ◌∙◌}
 use mathlib.Core.List.{[]}
 use Prim.Native.Nat.{ℕ, ◌+◌, ◌≤◌, ◌<◌}
 use native.Mathlib.Omega.{arith}
 use Rattle.std.specs.Prelude.{IfSome}
-use Rattle.sample_constants.specs.Laws.{filled_strings}
 use Rattle.score.specs.Score.{events_at, next_from}
 use Rattle.score.specs.Laws.{next_after, none_at}
 use Rattle.render.proofs.next_stretch.Goals as goal
@@ -21,7 +20,6 @@ returns c =
     let at = c.args in
     let es = at.events.now in
     let from = at.t + at.run.done + 1 in
-    let strung = filled_strings at.instrument at.lengths.now at.coefficients.now c.requires.playable.keys c.requires.strings_filled in
     let stop = c.match-next_event.stop in
     let stops : (at.run.done < stop) × (stop ≤ at.m) × ((u : ℕ) → u < at.t + stop → IfSome (next_from es from) (λ n. u < n)) =
     elim c.match-next_event.branch [
@@ -32,8 +30,7 @@ returns c =
       | in-None w ↦ (omega (arith, w.stop-is, c.requires.done_lt_m), omega (arith, w.stop-is), λ u h. rw (← w.in-None.ensures) tt)
     ] in
     record {
-      setup = c.setup_of.ensures;
-      acted = rw strung at c.apply_events-piano.ensures;
+      acted = rw c.requires.strings at c.apply_events-piano.ensures;
       down = c.dampers_down.ensures;
       start = refl;
       done = refl;

@@ -1,13 +1,14 @@
 -- `render::play_stretch` meets its contract: a turn of its loop is `one_turn`. Assumes nothing.
-use mathlib.Core.Path.{◌≡◌, refl, subst, ◌∙◌}
+use mathlib.Core.Path.{◌≡◌, refl, ap, subst, ◌∙◌}
 use mathlib.Core.Bool.{false}
 use Prim.Native.Nat.{ℕ, ◌+◌}
 use native.Mathlib.Omega.{arith}
-use lib.ListN.{get_or}
+use lib.ListN.{length, get_or}
 use Rattle.sample.specs.Sample.{Step, model_at, step_of}
 use Rattle.sample.specs.Laws.{ready_kept}
 use Rattle.score.specs.Contacts.{contacts_of}
 use Rattle.score.specs.Laws.{can_count}
+use Rattle.render.specs.declared.Run.{Run}
 use Rattle.render.specs.Render.{Advanced, InRange, rendering_of, stretch_step}
 use Rattle.render.proofs.Runs.{advanced_lengths, advanced_start, advanced_then, one_turn}
 use Rattle.render.proofs.play_stretch.Goals as goal
@@ -20,7 +21,7 @@ loop-done-init c =
       in_range = c.requires.in_range;
       part = refl;
       scratch = refl;
-      indexed = c.first_indices-indices.ensures;
+      indexed = c.first_indices.ensures;
     }
 
 pub sample-s-requires : goal.sample-s-requires
@@ -53,7 +54,7 @@ loop-done-preserved c =
     let step : Step = step_of c.sample-s.result c.sample-s.new.damper_r c.sample-s.new.part in
     let next : s.t + here.done + 1 ≡ s.t + (here.done + 1) = omega arith in
     let turned =
-    one_turn (model_at s.setup at.table.now at.lengths.now at.coefficients.now) (λ k. get_or s.down k false) s.t here.piano
+    one_turn (model_at at.tables) (λ k. get_or s.down k false) s.t here.piano
     here.part here.done here.pushed step c.sample-s.ensures _ c.count_contact.ensures c.push-pushed.result c.push-pushed.ensures.0
     here.invariant.in_range c.loop-done-test.true c.put.ensures c.push-pushed.ensures.1 in
     record {
@@ -79,12 +80,12 @@ shape_of-trace c = (advanced_lengths c.loop-done.invariant.advanced).1
 pub returns : goal.returns
 returns c =
     let here = c.loop-done in
-    let s = c.args.stretch in
+    let at = c.args in
+    let s = at.stretch in
     let stopped : here.done ≡ s.stop = omega (arith, c.loop-done-test.false, here.invariant.in_range.below) in
-    let advanced : Advanced (stretch_step s c.args.table.now c.args.lengths.now c.args.coefficients.now) s.t
-        (rendering_of s.run c.args.part.now c.args.out.now c.args.trace.now)
-        (rendering_of (record { piano = here.piano; done = s.stop; pushed = here.pushed }) here.part here.out here.trace) =
-    subst (λ (done : ℕ). Advanced (stretch_step s c.args.table.now c.args.lengths.now c.args.coefficients.now) s.t
-        (rendering_of s.run c.args.part.now c.args.out.now c.args.trace.now)
-        (rendering_of (record { piano = here.piano; done = done; pushed = here.pushed }) here.part here.out here.trace)) stopped here.invariant.advanced in
-    (advanced, refl, subst (λ (done : ℕ). InRange s.setup.keys (record { piano = here.piano; done = done; pushed = here.pushed }) s.t s.stop) stopped here.invariant.in_range)
+    let all_done = ap (λ (done : ℕ). record { piano = here.piano; done = done; pushed = here.pushed }) stopped in
+    let from = rendering_of s.run at.part.now at.out.now at.trace.now in (
+      subst (λ (r : Run). Advanced (stretch_step s (model_at at.tables)) s.t from (rendering_of r here.part here.out here.trace)) all_done here.invariant.advanced,
+      refl,
+      subst (λ (r : Run). InRange (length at.tables.keys.now) r s.t s.stop) all_done here.invariant.in_range,
+    )

@@ -11,11 +11,11 @@ use Rattle.render.proofs.play_stretch.Given as goal
 
 abbrev pub invariant-loop-done : goal.invariant-loop-done
 invariant-loop-done l = record {
-  advanced : Advanced (stepped (model_at l.setup l.table l.lengths l.coefficients) (λ k. get_or l.down k false)) l.t
+  advanced : Advanced (stepped (model_at l.tables) (λ k. get_or l.down k false)) l.t
       (rendering_of (record { piano = l.initial.piano; done = l.initial.done; pushed = l.initial.pushed }) l.initial.part l.initial.out l.initial.trace)
       (rendering_of (record { piano = l.piano; done = l.done; pushed = l.pushed }) l.part l.out l.trace);
-  in_range : InRange l.setup.keys (record { piano = l.piano; done = l.done; pushed = l.pushed }) l.t l.stop;
+  in_range : InRange (length l.tables.keys.now) (record { piano = l.piano; done = l.done; pushed = l.pushed }) l.t l.stop;
   part : length l.part ≡ length l.initial.part;
   scratch : length l.scratch ≡ length l.initial.scratch;
-  indexed : Indexed l.lengths l.coefficients l.indices l.setup.strings (l.t + l.done);
+  indexed : Indexed l.designs l.indices (l.t + l.done);
 }

@@ -1,19 +1,23 @@
 -- `render::render` meets its contract. The loop's invariant: the render went on from its start to the run so far, by the score's samples; the run's counts are in
 -- range; part and scratch have as many cells as before. A turn is a stretch, whose samples are the score's by `stretch_advanced`. Assumes nothing.
-use mathlib.Core.Path.{refl, ◌∙◌}
+use mathlib.Core.Path.{◌≡◌, refl, ◌∙◌}
 use native.Mathlib.Nat.{add-zero}
 use native.Mathlib.Omega.{arith}
+use borrow.Author.Rules.{rules}
+use lib.ListN.{length}
+use lib.Seq.{length-take-le}
+use Rattle.sample_constants.specs.Laws.{filled_strings, filled_model}
 use Rattle.score.specs.Score.{events_of}
 use Rattle.render.specs.Render.{unstarted}
 use Rattle.render.proofs.Runs.{advanced_start, advanced_then, advanced_lengths, advanced_rendered}
-use Rattle.render.proofs.Runs.{tables_playable, stretch_ready, stretch_in_range, stretch_advanced, stretch_done}
+use Rattle.render.proofs.Runs.{strings_playable, model_ready, stretch_in_range, stretch_advanced, stretch_done}
 use Rattle.render.proofs.render.Goals as goal
 
-pub key_table-table-requires : goal.key_table-table-requires
-key_table-table-requires c = c.requires.renderable.keys
+pub key_table-keys-requires : goal.key_table-keys-requires
+key_table-keys-requires c = c.requires.renderable.keys
 
-pub string_tables-tables-requires : goal.string_tables-tables-requires
-string_tables-tables-requires c =
+pub string_table-strings-requires : goal.string_table-strings-requires
+string_table-strings-requires c =
     let can = c.requires.renderable in
     record {
       key_count_bound = can.keys;
@@ -33,10 +37,11 @@ loop-run-init c =
 pub next_stretch-stretch-requires : goal.next_stretch-stretch-requires
 next_stretch-stretch-requires c =
     let asked = c.requires in
-    let strung = c.string_tables-tables.ensures in
+    let can = asked.renderable in
+    let strings = filled_strings c.args.instrument c.string_table-strings.result (search rules) can.strings c.string_table-strings.ensures in
     record {
-      playable = tables_playable asked.renderable strung c.loop-run.part c.loop-run.invariant.part;
-      strings_filled = strung;
+      playable = strings_playable can strings c.loop-run.part c.loop-run.invariant.part;
+      strings = strings;
       done_lt_m = c.loop-run-test.true;
       m_bound = asked.m_bound;
     }
@@ -45,11 +50,14 @@ pub play_stretch-run-requires : goal.play_stretch-run-requires
 play_stretch-run-requires c =
     let here = c.loop-run in
     let can = c.requires.renderable in
-    let strung = c.string_tables-tables.ensures in
     let next = c.next_stretch-stretch in
+    let long : length c.key_table-keys.result ≡ 16 = search rules in
+    let keys = length-take-le c.args.instrument.key_count c.key_table-keys.result (omega (arith, long, can.keys)) in
+    let wide : length c.string_table-strings.result ≡ 32 = search rules in
+    let tables = filled_model c.args.instrument can.keys can.strings c.constants_of.ensures long c.key_table-keys.ensures wide c.string_table-strings.ensures in
     record {
-      ready = stretch_ready can strung next.ensures here.scratch (next.auto.part ∙ here.invariant.part) here.invariant.scratch;
-      in_range = stretch_in_range can strung next.ensures here.invariant.in_range;
+      ready = model_ready can tables _ here.scratch (next.auto.part ∙ here.invariant.part) here.invariant.scratch;
+      in_range = rw keys (stretch_in_range can next.ensures here.invariant.in_range);
     }
 
 pub loop-run-smaller : goal.loop-run-smaller
@@ -61,12 +69,15 @@ pub loop-run-preserved : goal.loop-run-preserved
 loop-run-preserved c =
     let here = c.loop-run in
     let can = c.requires.renderable in
-    let strung = c.string_tables-tables.ensures in
     let next = c.next_stretch-stretch in
     let call = c.play_stretch-run in
+    let long : length c.key_table-keys.result ≡ 16 = search rules in
+    let keys = length-take-le c.args.instrument.key_count c.key_table-keys.result (omega (arith, long, can.keys)) in
+    let wide : length c.string_table-strings.result ≡ 32 = search rules in
+    let tables = filled_model c.args.instrument can.keys can.strings c.constants_of.ensures long c.key_table-keys.ensures wide c.string_table-strings.ensures in
     record {
-      advanced = advanced_then here.invariant.advanced (stretch_advanced can strung next.ensures c.key_table-table.ensures call.ensures.0 call.ensures.1);
-      in_range = stretch_done can strung next.ensures here.invariant.in_range call.ensures.2;
+      advanced = advanced_then here.invariant.advanced (stretch_advanced can next.ensures tables call.ensures.0 call.ensures.1);
+      in_range = stretch_done can next.ensures here.invariant.in_range (rw keys at call.ensures.2);
       part = call.auto.part ∙ next.auto.part ∙ here.invariant.part;
       scratch = call.auto.scratch ∙ here.invariant.scratch;
     }

@@ -13,13 +13,13 @@ overflow_add-end c = let fits = one_fits c.requires.few in omega (arith, fits)
 pub offset_bounds-part-at : goal.offset_bounds-part-at
 offset_bounds-part-at c = let fits = one_fits c.requires.few in omega (arith, fits)
 
-pub slice_bounds-filter_string-end : goal.slice_bounds-filter_string-end
-slice_bounds-filter_string-end c = let fits = one_fits c.requires.few in omega (arith, fits)
+pub slice_bounds-filter-end : goal.slice_bounds-filter-end
+slice_bounds-filter-end c = let fits = one_fits c.requires.few in omega (arith, fits)
 
 pub returns-clause-filtered : goal.returns-clause-filtered
 returns-clause-filtered c =
     let args = c.args in
     let few = c.requires.few in
-    let call = c.filter_string.ensures in
+    let call = c.filter.ensures in
     one_is (design_at args.designs.now) args.here.i args.t args.part.now args.v_in.now args.here.at c.layout.result.size
-    c.filter_string.result c.filter_string.new.part few.room (omega (arith, c.requires.has_v_in)) few.start c.layout.ensures.size call.0 call.1
+    c.filter.result c.filter.new.part few.room (omega (arith, c.requires.has_v_in)) few.start c.layout.ensures.size call.0 call.1

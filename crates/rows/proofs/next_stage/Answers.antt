@@ -9,16 +9,24 @@ use Rattle.rows.specs.Laws.{stage_room, staged_turn}
 use Rattle.rows.proofs.next_stage.Goals as goal
 
 pub overflow_add-z : goal.overflow_add-z
-overflow_add-z g c = let room = stage_room c.requires.few c.loop-l.l c.loop-l-test.true c.requires.laid c.args.s c.requires.s_lt_stages.0 in omega (arith, room)
+overflow_add-z g c =
+    let room = stage_room c.requires.few c.loop-l.l c.loop-l-test.true c.requires.laid c.args.s c.requires.s_lt_stages.0 in
+    omega (arith, room)
 
 pub overflow_add-e : goal.overflow_add-e
-overflow_add-e g c = let room = stage_room c.requires.few c.loop-l.l c.loop-l-test.true c.requires.laid c.args.s c.requires.s_lt_stages.0 in omega (arith, room)
+overflow_add-e g c =
+    let room = stage_room c.requires.few c.loop-l.l c.loop-l-test.true c.requires.laid c.args.s c.requires.s_lt_stages.0 in
+    omega (arith, room)
 
 pub offset_bounds-part-z : goal.offset_bounds-part-z
-offset_bounds-part-z g c = let room = stage_room c.requires.few c.loop-l.l c.loop-l-test.true c.requires.laid c.args.s c.requires.s_lt_stages.0 in omega (arith, room)
+offset_bounds-part-z g c =
+    let room = stage_room c.requires.few c.loop-l.l c.loop-l-test.true c.requires.laid c.args.s c.requires.s_lt_stages.0 in
+    omega (arith, room)
 
 pub slice_bounds-allpass-end : goal.slice_bounds-allpass-end
-slice_bounds-allpass-end g c = let room = stage_room c.requires.few c.loop-l.l c.loop-l-test.true c.requires.laid c.args.s c.requires.s_lt_stages.0 in omega (arith, room)
+slice_bounds-allpass-end g c =
+    let room = stage_room c.requires.few c.loop-l.l c.loop-l-test.true c.requires.laid c.args.s c.requires.s_lt_stages.0 in
+    omega (arith, room)
 
 pub loop-l-preserved : goal.loop-l-preserved
 loop-l-preserved g c =

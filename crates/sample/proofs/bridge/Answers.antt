@@ -2,16 +2,6 @@
 use Rattle.keys.specs.Keys.{bridge_speeds}
 use Rattle.sample.proofs.bridge.Goals as goal
 
-pub bridge_strings-requires : goal.bridge_strings-requires
-bridge_strings-requires c =
-    let ready = c.requires.ready in
-    record {
-      all_fit = ready.fit;
-      indexed = c.requires.indexed;
-      n_in_bounds = ready.cells;
-      n_in_bounds_2 = ready.scratch;
-    }
-
 pub returns : goal.returns
 unfolding bridge_speeds
 returns c =

@@ -4,7 +4,7 @@ use borrow.Author.Rules.{rules}
 use mathlib.Core.Path.{ap, ◌∙◌}
 use mathlib.Core.Bool.{false}
 use native.Mathlib.Omega.{arith}
-use lib.ListN.{get_or, drop}
+use lib.ListN.{length, get_or, drop}
 use Rattle.std.specs.Prelude.{◌≡◌, Option, None, Some, MatchOption, IsSomeAnd, option_map, Float}
 use Rattle.points.specs.declared.Flight.{Flight}
 use Rattle.strings.specs.Laws.{fit_sound}
@@ -12,30 +12,6 @@ use Rattle.sample.specs.Sample.{model_at}
 use Rattle.sample.specs.Laws.{ready_kept}
 use Rattle.sample.proofs.Fused.{sample_is}
 use Rattle.sample.proofs.sample.Goals as goal
-
-pushed : (h : Option Flight) (r : Option Float) (f : Float) → MatchOption h (r ≡ None) (λ x. IsSomeAnd r (λ y. y ≡ f)) → r ≡ option_map (λ _. f) h
-pushed None r f e = e
-pushed (Some x) (Some y) f e = ap Some e
-pushed (Some x) None f e = absurd e
-
-pub filter_strings-requires : goal.filter_strings-requires
-filter_strings-requires c =
-    let ready = c.requires.ready in
-    record {
-      all_fit = ready.fit;
-      indexed = c.requires.indexed;
-      n_in_bounds = ready.cells;
-      n_in_bounds_2 = ready.scratch;
-    }
-
-pub strike_strings-f-requires : goal.strike_strings-f-requires
-strike_strings-f-requires c =
-    let ready = c.requires.ready in
-    record {
-      all_fit = ready.fit;
-      indexed = c.requires.indexed;
-      n_in_bounds = omega (arith, c.filter_strings.auto.part, ready.cells);
-    }
 
 pub bridge-out-requires : goal.bridge-out-requires
 bridge-out-requires c =
@@ -49,11 +25,11 @@ pub returns : goal.returns
 returns c =
     let at = c.args in
     let ready = c.requires.ready in
-    let model = model_at at.setup at.table.now at.lengths.now at.coefficients.now in
+    let model = model_at at.tables in
     let force : c.map.result ≡ option_map (λ _. c.strike_strings-f.result.force_sum) at.motion.hammer = search rules in
     rw c.is_some.ensures (
-      sample_is model (λ k. get_or at.down.now k false) at.t at.damper_r.now at.motion at.part.now
-      (drop at.setup.strings at.scratch.now) (fit_sound ready.fit) ready.cells
-      c.move_dampers.ensures c.filter_strings.ensures.0 c.strike_strings-f.ensures.0 c.strike_strings-f.ensures.1
-      c.move_hammer-after.ensures (rw c.filter_strings.ensures.1 at c.bridge-out.ensures) force
+    sample_is model (λ k. get_or at.down.now k false) at.t at.damper_r.now at.motion at.part.now
+    (drop (length model.strings) at.scratch.now) (fit_sound ready.fit) ready.cells
+    c.move_dampers.ensures c.filter_strings.ensures.0 c.strike_strings-f.ensures.0 c.strike_strings-f.ensures.1
+    c.move_hammer-after.ensures (rw c.filter_strings.ensures.1 at c.bridge-out.ensures) force
     )

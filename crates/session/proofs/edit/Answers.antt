@@ -2,11 +2,8 @@
 use Rattle.session.proofs.Calls.{edited}
 use Rattle.session.proofs.edit.Goals as goal
 
-pub restore-piano-requires : goal.restore-piano-requires
-restore-piano-requires c = c.requires
-
 pub returns : goal.returns
 returns c =
     let from = c.args in
-    edited from.instrument from.session from.work.now from.q _ _ _ _ _ _ _ c.settle-t.ensures c.count_above-dropped.ensures c.drop_above-left.ensures
+    edited from.instrument from.session from.work.now from.q _ _ _ _ _ _ _ c.settle-t.ensures c.count_above-dropped.ensures c.drop_above.ensures
     c.restore-piano.ensures

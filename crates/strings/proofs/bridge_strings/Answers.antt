@@ -1,4 +1,4 @@
--- `strings::bridge_strings` meets its contract. The loop's invariant: what is left to do gives what the whole walk gives (`WalkAt` of specs/Walk). Assumes nothing.
+-- `strings::bridge_strings` meets its contract. The loop's invariant is `WalkAt` of specs/Walk: what is left to do gives the whole. Assumes nothing.
 use mathlib.Core.Path.{refl}
 use mathlib.Core.List.{[]}
 use Rattle.string.specs.Table.{design_at}
@@ -13,8 +13,8 @@ loop-i-preserved c =
     let i = c.loop-i.i in
     let d = design_at at.designs.now i in
     let force = bridge_force_one at.z at.v_b.now at.v_in.now i d [] c.loop-i.f_bridge in
-    at_turn c.loop-i.invariant c.loop-i-test.true c.layout.result.size c.bridge_string.new.part force c.layout.ensures.size
-    (bridge_keeps at.v_b.now at.v_in.now at.t i d) c.bridge_string.ensures refl
+    at_turn c.loop-i.invariant c.loop-i-test.true c.layout.result.size c.send_back.new.part force c.layout.ensures.size
+    (bridge_keeps at.v_b.now at.v_in.now at.t i d) c.send_back.ensures refl
 
 pub returns : goal.returns
 returns c = at_end c.loop-i.invariant c.loop-i-test.false

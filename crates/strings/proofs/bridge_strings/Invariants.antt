@@ -1,4 +1,4 @@
--- `strings::bridge_strings` meets its contract. The loop's invariant: what is left to do gives what the whole walk gives (`WalkAt` of specs/Walk). Assumes nothing.
+-- `strings::bridge_strings` meets its contract. The loop's invariant is `WalkAt` of specs/Walk: what is left to do gives the whole. Assumes nothing.
 use Rattle.strings.specs.Strings.{bridge_one, bridge_force_one}
 use Rattle.strings.specs.Walk.{WalkAt}
 use Rattle.strings.proofs.bridge_strings.Given as goal

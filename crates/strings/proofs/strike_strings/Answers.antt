@@ -1,4 +1,4 @@
--- `strings::strike_strings` meets its contract. The loop's invariant: what is left to do gives what the whole walk gives (`WalkAt` of specs/Walk). Assumes nothing.
+-- `strings::strike_strings` meets its contract. The loop's invariant is `WalkAt` of specs/Walk: what is left to do gives the whole. Assumes nothing.
 use mathlib.Core.Path.{ap, ◌∙◌}
 use lib.Ieee.{Float}
 use Rattle.points.specs.Points.{summed}
@@ -11,9 +11,9 @@ pub loop-i-preserved : goal.loop-i-preserved
 loop-i-preserved c =
     let at = c.args in
     let i = c.loop-i.i in
-    let sum = c.add_force-sum.ensures ∙ ap (λ (y : Float). summed c.loop-i.sum y) c.strike_string-f.ensures.0 in
-    at_turn c.loop-i.invariant c.loop-i-test.true c.layout.result.size c.strike_string-f.new.part c.add_force-sum.result c.layout.ensures.size
-    (turned_keeps at.c at.hammer at.damper_r.now at.t i (design_at at.designs.now i)) c.strike_string-f.ensures.1 sum
+    let sum = c.with-sum.ensures ∙ ap (λ (y : Float). summed c.loop-i.sum y) c.strike_string-f.ensures.force in
+    at_turn c.loop-i.invariant c.loop-i-test.true c.layout.result.size c.strike_string-f.new.part c.with-sum.result c.layout.ensures.size
+    (turned_keeps at.c at.hammer at.damper_r.now at.t i (design_at at.designs.now i)) c.strike_string-f.ensures.cells sum
 
 pub returns : goal.returns
 returns c = at_end c.loop-i.invariant c.loop-i-test.false
