@@ -29,7 +29,7 @@ pub struct Common {
 
 // A key; `strings` is how many strings it has.
 #[repr(C)]
-#[derive(Clone, Copy)]
+#[derive(Clone, Copy, Default)]
 pub struct KeyDesign {
     pub key: u8,
     pub has_damper: bool,
@@ -42,7 +42,7 @@ pub struct KeyDesign {
 
 // A string's loop; `phi` stands for the delay of its filters.
 #[repr(C)]
-#[derive(Clone, Copy)]
+#[derive(Clone, Copy, Default)]
 pub struct LoopDesign {
     pub n: usize,
     pub ap_count: usize,
@@ -51,18 +51,6 @@ pub struct LoopDesign {
     pub ap_a: f64,
     pub loss_g: f64,
     pub loss_c: f64,
-}
-
-fn size_16(x: u16) -> usize
-    ensures { result ≡ x }
-{
-    x as usize
-}
-
-pub fn size_8(x: u8) -> usize
-    ensures { result ≡ x }
-{
-    x as usize
 }
 
 fn read_hammer(b: &[u8]) -> Hammer
@@ -89,9 +77,9 @@ pub fn read_common(b: &[u8]) -> Common
     Common {
         fs: f64_at(b, 0),
         z: f64_at(b, 8),
-        hammer: hammer,
+        hammer,
         yz: f64_at(b, 48),
-        damper: damper,
+        damper,
     }
 }
 
@@ -102,7 +90,7 @@ pub fn read_key(b: &[u8]) -> KeyDesign
     KeyDesign {
         key: byte_at(b, 0),
         has_damper: byte_at(b, 1) == 1,
-        strings: size_8(byte_at(b, 2)),
+        strings: usize::from(byte_at(b, 2)),
         weight: f64_at(b, 4),
         damper_scale: f64_at(b, 12),
         strike_ratio: f64_at(b, 20),
@@ -115,8 +103,8 @@ pub fn read_loop(b: &[u8]) -> LoopDesign
     ensures { result ≡ loop_of b.now }
 {
     LoopDesign {
-        n: size_16(u16_at(b, 0)),
-        ap_count: size_16(u16_at(b, 2)),
+        n: usize::from(u16_at(b, 0)),
+        ap_count: usize::from(u16_at(b, 2)),
         phi: f64_at(b, 4),
         thiran_a: f64_at(b, 12),
         ap_a: f64_at(b, 20),
@@ -201,11 +189,7 @@ pub fn string_in_range(s: LoopDesign) -> bool
 fn is_plus_zero(x: f64) -> bool
     ensures { result ≡ is_plus_zero x }
 {
-    if x == 0.0 {
-        f64::to_bits(x) == 0
-    } else {
-        false
-    }
+    x == 0.0 && x.to_bits() == 0
 }
 
 pub fn is_no_key(k: KeyDesign) -> bool
@@ -236,30 +220,14 @@ pub fn is_no_string(s: LoopDesign) -> bool
 pub fn no_key() -> KeyDesign
     ensures { result ≡ no_key }
 {
-    KeyDesign {
-        key: 0,
-        has_damper: false,
-        strings: 0,
-        weight: 0.0,
-        damper_scale: 0.0,
-        strike_ratio: 0.0,
-        damper_ratio: 0.0,
-    }
+    KeyDesign::default()
 }
 
 // What an unused place of the strings holds.
 pub fn no_string() -> LoopDesign
     ensures { result ≡ no_string }
 {
-    LoopDesign {
-        n: 0,
-        ap_count: 0,
-        phi: 0.0,
-        thiran_a: 0.0,
-        ap_a: 0.0,
-        loss_g: 0.0,
-        loss_c: 0.0,
-    }
+    LoopDesign::default()
 }
 
 fn no_hammer() -> Hammer
@@ -286,8 +254,8 @@ pub fn no_common() -> Common
     Common {
         fs: 0.0,
         z: 0.0,
-        hammer: hammer,
+        hammer,
         yz: 0.0,
-        damper: damper,
+        damper,
     }
 }

@@ -5,17 +5,19 @@ use mathlib.Core.List.{List, ◌++◌}
 use Prim.Native.Nat.{ℕ, suc, ◌+◌, ◌*◌, ◌≤◌, ◌<◌}
 use native.Mathlib.Numerals.{add-one}
 use native.Mathlib.Omega.{arith}
-use lib.ListN.{length, length-append}
+use lib.ListN.{length, length-append, take, drop}
+use Rattle.std.proofs.lemmas.List.{get_or-take, get_or-drop, drop-drop}
 use lib.Seq.{sets}
 use Rattle.little_endian.specs.Numbers.{le32}
 use Rattle.little_endian.specs.Stores.{stored_then, length_le32}
+use Rattle.instrument_fields.specs.declared.KeyDesign.{KeyDesign}
 use Rattle.instrument_fields.specs.declared.LoopDesign.{LoopDesign}
 use Rattle.instrument.specs.declared.Instrument.{Instrument}
 use Rattle.counting.specs.Below.{sum_below, gather}
-use Rattle.counting.specs.Laws.{sum_same, gather_first, length_gather}
-use Rattle.instrument.specs.Valid.{key_at, string_at, string_sum, valid}
+use Rattle.counting.specs.Laws.{sum_same, gather_first, length_gather, gather_cong}
+use Rattle.instrument.specs.Valid.{key_at, past_string, string_at, string_sum, valid}
 use Rattle.instrument.specs.ValidLaws.{few_strings_lem, string_sum_none, string_sum_more, string_sum_within, valid_counts, keys_ranges, strings_counted}
-use Rattle.instrument_encoding.specs.Encode.{common_bytes, string_bytes, key_bytes, section_bytes, section_start}
+use Rattle.instrument_encoding.specs.Encode.{common_bytes, string_bytes, head_bytes, key_bytes, section_bytes, section_start}
 use Rattle.instrument_encoding.proofs.Lengths.{strings_length, common_length, section_length, sections_length}
 use Rattle.instrument_encoding.specs.Placed.{pair_length}
 use Rattle.instrument_writer.specs.Pieces.{pair_bytes, table_bytes}
@@ -89,37 +91,60 @@ module _ (i : Instrument) where
         stored_then l l₁ l₂ (common_bytes i.common) (gather n K) p 76 (p + 76) (common_length i.common) refl e g
         ∙ ap (sets l p) (gather_first n S ∙ ap (λ (x : ℕ). gather x S) (sym (add-one n)))
 
-  -- k keys are stored up to `at`, with m strings
-  pub record AtKey (p room at m k : ℕ) : Type 0 where
+  -- k keys are stored up to `at`
+  pub record AtKey (p room at k : ℕ) : Type 0 where
     pub passes : valid i ≡ true
     pub space : p + 36 * n + 44 * i.string_count ≤ room
-    pub place : at ≡ p + 36 * k + 44 * m
+    pub place : at ≡ p + 36 * k + 44 * string_sum i.keys k
     pub below : k ≤ n
-    pub sum : m ≡ string_sum i.keys k
 
   module _ (p room : ℕ) where
-    pub at_none : valid i ≡ true → p + 36 * n + 44 * i.string_count ≤ room → AtKey p room p 0 0
-    at_none v h = record { passes = v; space = h; place = omega arith; below = omega arith; sum = sym (string_sum_none i.keys) }
+    pub at_none : valid i ≡ true → p + 36 * n + 44 * i.string_count ≤ room → AtKey p room p 0
+    at_none v h = record { passes = v; space = h; place = omega (arith, string_sum_none i.keys); below = omega arith }
 
     -- what the stores of key k need
-    pub record KeyFits (at m k : ℕ) : Type 0 where
+    pub record KeyFits (at k : ℕ) : Type 0 where
       pub few : (key_at i.keys k).strings ≤ 3
       pub keys : n ≤ 16
-      pub strings : m + (key_at i.keys k).strings ≤ 32
+      pub strings : string_sum i.keys k + (key_at i.keys k).strings ≤ 32
       pub ends : at + 36 + 44 * (key_at i.keys k).strings ≤ room
 
-    module _ (at m k : ℕ) (a : AtKey p room at m k) (h : k < n) where
-      pub key_fits : KeyFits at m k
-      key_fits = let f = key_bounds k a.passes h in record { few = f.few; keys = f.keys; strings = omega (arith, a.sum); ends = omega (arith, a.sum) }
+    module _ (at k : ℕ) (a : AtKey p room at k) (h : k < n) where
+      pub key_fits : KeyFits at k
+      key_fits = let f = key_bounds k a.passes h in record { few = f.few; keys = f.keys; strings = omega arith; ends = omega (arith, a.place) }
 
-      pub at_next : AtKey p room (at + (36 + 44 * (key_at i.keys k).strings)) (m + (key_at i.keys k).strings) (k + 1)
-      at_next = record {
-        passes = a.passes;
-        space = a.space;
-        place = omega (arith, a.place);
-        below = omega arith;
-        sum = ap (λ (x : ℕ). x + (key_at i.keys k).strings) a.sum ∙ sym (string_sum_more i.keys k);
-      }
+      pub at_next : AtKey p room (at + (36 + 44 * (key_at i.keys k).strings)) (k + 1)
+      at_next = record { passes = a.passes; space = a.space; place = omega (arith, a.place, string_sum_more i.keys k); below = omega arith }
+
+  -- ---- the walk through the keys and their strings
+
+  module _ (k : ℕ) where
+    -- the strings of key k are the first of those that are left
+    strings_here : (s : ℕ) → s ≡ (key_at i.keys k).strings → (rest : List LoopDesign) → rest ≡ drop (string_sum i.keys k) i.strings
+        → key_bytes (key_at i.keys k) (λ j. string_at (take s rest) j) ≡ key_bytes (key_at i.keys k) (λ j. string_at i.strings (string_sum i.keys k + j))
+    unfolding key_bytes
+    strings_here s e rest r =
+        ap (λ (l : List ℕ). head_bytes (key_at i.keys k) ++ l)
+        (gather_cong (key_at i.keys k).strings (λ j. string_bytes (string_at (take s rest) j)) (λ j. string_bytes (string_at i.strings (string_sum i.keys k + j)))
+        (λ j h.
+        ap string_bytes
+        (get_or-take s rest j past_string (omega (arith, e))
+        ∙ ap (λ (l : List LoopDesign). string_at l j) r
+        ∙ get_or-drop (string_sum i.keys k) i.strings j past_string)))
+
+    -- and the others are left to the next key
+    pub rest_next : (s : ℕ) → s ≡ (key_at i.keys k).strings → (rest : List LoopDesign) → rest ≡ drop (string_sum i.keys k) i.strings
+        → drop s rest ≡ drop (string_sum i.keys (k + 1)) i.strings
+    rest_next s e rest r =
+        ap (drop s) r ∙ drop-drop s (string_sum i.keys k) i.strings ∙ ap (λ (m : ℕ). drop m i.strings) (omega (arith, e, string_sum_more i.keys k))
+
+    pub key_turn : (l l₁ l₂ : List ℕ) (p at s : ℕ) (d : KeyDesign) → d ≡ key_at i.keys k → s ≡ d.strings → (rest : List LoopDesign)
+        → rest ≡ drop (string_sum i.keys k) i.strings → at ≡ p + 36 * k + 44 * string_sum i.keys k → l₁ ≡ sets l p (gather k K)
+        → l₂ ≡ sets l₁ at (key_bytes d (λ j. string_at (take s rest) j)) → l₂ ≡ sets l p (gather (k + 1) K)
+    key_turn l l₁ l₂ p at s d ed es rest r place e g =
+        let same = es ∙ ap (λ (x : KeyDesign). x.strings) ed in
+        key_next l l₁ l₂ p (string_sum i.keys k) k at refl place e
+        (g ∙ ap (λ (x : KeyDesign). sets l₁ at (key_bytes x (λ j. string_at (take s rest) j))) ed ∙ ap (sets l₁ at) (strings_here s same rest r))
 
   -- ---- the table
 

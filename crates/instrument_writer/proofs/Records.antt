@@ -1,6 +1,7 @@
 -- The common section, a key and a string as the stores of `put_common`, `put_head`, `put_key` and `put_string` leave them. Assumes nothing.
 use mathlib.Core.Path.{◌≡◌, refl, ap, ◌∙◌}
-use mathlib.Core.Bool.{cond}
+use mathlib.Core.Bool.{Bool, true, false, cond}
+use Rattle.std.specs.Int.{from_bool}
 use mathlib.Core.List.{List, ◌++◌}
 use Prim.Native.Nat.{ℕ, ◌+◌}
 use native.Mathlib.Omega.{arith}
@@ -57,6 +58,10 @@ module _ (l l₁ l₂ l₃ l₄ : List ℕ) (p : ℕ) where
   head_stored l₅ k flag e e₁ e₂ e₃ e₄ e₅ =
       bytes_then l l₁ l₂ l₃ l₄ l₅ (four k.weight k.damper_scale k.strike_ratio k.damper_ratio) p k.key (cond k.has_damper 1 0) k.strings 0
       e₁ (e₂ ∙ ap (set l₁ (p + 1)) e) e₃ e₄ e₅
+
+pub flag_is : (b : Bool) → from_bool b ≡ cond b 1 0
+flag_is true = refl
+flag_is false = refl
 
 pub key_stored : (l l₁ l₂ : List ℕ) (p : ℕ) (k : KeyDesign) (s : ℕ → LoopDesign) → l₁ ≡ sets l p (head_bytes k) → l₂ ≡ sets l₁ (p + 36) (gather k.strings (λ j. string_bytes (s j)))
     → l₂ ≡ sets l p (key_bytes k s)

@@ -2,7 +2,7 @@
 // gives the same bytes (specs/Saving.antt).
 #![tactic(auto)]
 
-ghost use Rattle.std.specs.Prelude.{◌≡◌, true, cond, ◌++◌, suc, ◌+◌, ◌*◌, ◌≤◌, ◌<◌, length};
+ghost use Rattle.std.specs.Prelude.{◌≡◌, true, ◌++◌, suc, ◌+◌, ◌*◌, ◌≤◌, ◌<◌, length};
 ghost use Rattle.std.proofs.lemmas.List.Edits.{sets};
 ghost use Rattle.counting.specs.Below.{gather};
 ghost use Rattle.little_endian.specs.Numbers.{le16, le32, le_f64};
@@ -44,10 +44,11 @@ fn put_common(b: &mut [u8], p: usize, c: Common)
     put_u32(b, p + 72, hammer.exponent);
 }
 
-// All of a number that is in range; the premise that it is would be asked of each string.
+// All of a number that is in range.
 fn low_16(x: usize) -> u16
     ensures { le16 result ≡ le16 x }
 {
+    // Not `u16::try_from`: a premise that every n is in range would be asked of each string.
     (x % 0x1_0000) as u16
 }
 
@@ -61,18 +62,12 @@ fn put_string(b: &mut [u8], p: usize, s: LoopDesign)
     put_f64(b, p + 36, s.loss_c);
 }
 
-fn flag_byte(flag: bool) -> u8
-    ensures { result ≡ cond flag 1 0 }
-{
-    if flag { 1 } else { 0 }
-}
-
 fn put_head(b: &mut [u8], p: usize, k: KeyDesign)
     requires { (p + 36 ≤ length b.old) × (k.strings ≤ 3) }
     ensures { b.new ≡ sets b.old p (head_bytes k) }
 {
     put_u8(b, p, k.key);
-    put_u8(b, p + 1, flag_byte(k.has_damper));
+    put_u8(b, p + 1, u8::from(k.has_damper));
     put_u8(b, p + 2, k.strings as u8);
     put_u8(b, p + 3, 0);
     put_four(
@@ -85,38 +80,36 @@ fn put_head(b: &mut [u8], p: usize, k: KeyDesign)
     );
 }
 
-// The s strings from string m on.
-fn put_strings(b: &mut [u8], p: usize, strings: [LoopDesign; 32], m: usize, s: usize)
-    requires { (p + 44 * s ≤ length b.old) × (m + s ≤ 32) }
-    ensures { b.new ≡ sets b.old p (gather s (λ j. string_bytes (string_at strings (m + j)))) }
+fn put_strings(b: &mut [u8], p: usize, strings: &[LoopDesign])
+    requires { p + 44 * length strings.now ≤ length b.old }
+    ensures { b.new ≡ sets b.old p (gather (length strings.now) (λ j. string_bytes (string_at strings.now j))) }
 {
-    for j in 0..s {
-        let string = strings[m + j];
-        put_string(b, p + 44 * j, string);
+    for (j, string) in strings.iter().enumerate() {
+        put_string(b, p + 44 * j, *string);
     }
 }
 
-fn put_key(b: &mut [u8], p: usize, k: KeyDesign, strings: [LoopDesign; 32], m: usize)
-    requires { (p + 36 + 44 * k.strings ≤ length b.old) × (k.strings ≤ 3) × (m + k.strings ≤ 32) }
-    ensures { b.new ≡ sets b.old p (key_bytes k (λ j. string_at strings (m + j))) }
+fn put_key(b: &mut [u8], p: usize, k: KeyDesign, strings: &[LoopDesign])
+    requires { (p + 36 + 44 * k.strings ≤ length b.old) × (k.strings ≤ 3) × (length strings.now ≡ k.strings) }
+    ensures { b.new ≡ sets b.old p (key_bytes k (λ j. string_at strings.now j)) }
 {
     put_head(b, p, k);
-    put_strings(b, p + 36, strings, m, k.strings);
+    put_strings(b, p + 36, strings);
 }
 
-// The keys' sections from p on.
+// The keys' sections from p on; `rest` is the strings of the keys that are left.
 fn put_keys(b: &mut [u8], p: usize, i: Instrument)
     requires { (valid i ≡ true) × (p + 36 * i.key_count + 44 * i.string_count ≤ length b.old) }
     ensures { b.new ≡ sets b.old p (gather i.key_count (λ k. section_bytes i (suc k))) }
 {
-    let strings = i.strings;
+    let keys = &i.keys[..i.key_count];
+    let mut rest = &i.strings[..];
     let mut at = p;
-    let mut m = 0usize;
-    for k in 0..i.key_count {
-        let key = i.keys[k];
-        put_key(b, at, key, strings, m);
+    for key in keys {
+        let (strings, after) = rest.split_at(key.strings);
+        put_key(b, at, *key, strings);
         at += 36 + 44 * key.strings;
-        m += key.strings;
+        rest = after;
     }
 }
 
@@ -144,10 +137,9 @@ fn put_pairs(b: &mut [u8], i: Instrument)
     requires { (valid i ≡ true) × (12 + 8 * i.key_count ≤ length b.old) }
     ensures { b.new ≡ sets b.old 12 (gather i.key_count (λ k. pair_bytes i (suc k))) }
 {
-    let n = i.key_count;
-    let mut offset = 88 + 8 * n;
-    for k in 0..n {
-        let key = i.keys[k];
+    let keys = &i.keys[..i.key_count];
+    let mut offset = 88 + 8 * i.key_count;
+    for (k, key) in keys.iter().enumerate() {
         let size = 36 + 44 * key.strings;
         put_pair(b, 12 + 8 * k, offset, size);
         offset += size;

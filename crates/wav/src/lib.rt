@@ -3,55 +3,39 @@
 
 ghost use Rattle.std.specs.Prelude.{◌≤◌, length};
 
-use little_endian::{f64_at, put_f64, put_u8, put_u16, put_u32, u16_at, u32_at};
+use little_endian::{f64_at, put_f64, put_u16, put_u32, u16_at, u32_at};
 
 pub const HEADER: usize = 58;
 
-fn put_text(b: &mut [u8], at: usize, text: &[u8]) {
-    for i in 0..text.len() {
-        put_u8(b, std::num::wrapping_add_usize(at, i), text[i]);
-    }
-}
-
-fn low_32(n: u64) -> u32 {
-    (n % 0x1_0000_0000) as u32
-}
-
-fn clipped(n: u64, most: u64) -> u64
-    ensures { result ≤ most }
-{
-    if n < most { n } else { most }
-}
+// The names in a header, at their places.
+const TEXTS: [u8; 58] =
+    *b"RIFF\0\0\0\0WAVEfmt \0\0\0\0\0\0\0\0\0\0\0\0\0\0\0\0\0\0\0\0\0\0fact\0\0\0\0\0\0\0\0data\0\0\0\0";
 
 // The most samples whose file's size a header of 32 bits can say.
 pub const MOST_SAMPLES: u64 = 0x1fff_fff9;
 
 // A file's length, of no more samples than that.
 pub fn file_size(count: u64) -> i64 {
-    (58 + clipped(count, MOST_SAMPLES) * 8) as i64
+    (58 + count.min(MOST_SAMPLES) * 8) as i64
 }
 
 // A file's first bytes: `count` samples at `rate` a second. Sizes of over 32 bits stop at the largest.
 pub fn header(rate: u64, count: u64) -> [u8; 58] {
-    let samples = clipped(count, MOST_SAMPLES);
+    let samples = count.min(MOST_SAMPLES);
     let size = samples * 8;
-    let pace = clipped(rate, 0x1fff_ffff) * 8;
-    let mut h = [0u8; 58];
-    put_text(&mut h, 0, b"RIFF");
-    put_u32(&mut h, 4, low_32(50 + size));
-    put_text(&mut h, 8, b"WAVEfmt ");
+    let pace = rate.min(0x1fff_ffff) * 8;
+    let mut h = TEXTS;
+    put_u32(&mut h, 4, (50 + size) as u32);
     put_u32(&mut h, 16, 18);
     put_u16(&mut h, 20, 3);
     put_u16(&mut h, 22, 1);
-    put_u32(&mut h, 24, low_32(rate));
-    put_u32(&mut h, 28, low_32(pace));
+    put_u32(&mut h, 24, (rate % 0x1_0000_0000) as u32);
+    put_u32(&mut h, 28, pace as u32);
     put_u16(&mut h, 32, 8);
     put_u16(&mut h, 34, 64);
-    put_text(&mut h, 38, b"fact");
     put_u32(&mut h, 42, 4);
-    put_u32(&mut h, 46, low_32(samples));
-    put_text(&mut h, 50, b"data");
-    put_u32(&mut h, 54, low_32(size));
+    put_u32(&mut h, 46, samples as u32);
+    put_u32(&mut h, 54, size as u32);
     h
 }
 
@@ -59,15 +43,11 @@ pub fn header(rate: u64, count: u64) -> [u8; 58] {
 pub fn put_samples(samples: &[f64], bytes: &mut [u8]) -> usize
     ensures { result ≤ length bytes.new }
 {
-    let mut at = 0usize;
-    for i in 0..samples.len() {
-        if bytes.len() - at < 8 {
-            return at;
-        }
-        put_f64(bytes, at, samples[i]);
-        at += 8;
+    let count = samples.len().min(bytes.len() / 8);
+    for (place, sample) in bytes.chunks_exact_mut(8).zip(samples) {
+        put_f64(place, 0, *sample);
     }
-    at
+    count * 8
 }
 
 // ---- reading
@@ -82,7 +62,7 @@ const DATA: u32 = 0x6174_6164;
 
 // Whether a file that begins with these 12 bytes is a WAV file.
 pub fn is_wave(b: &[u8]) -> bool {
-    (u32_at(b, 0) == RIFF) & (u32_at(b, 8) == WAVE)
+    u32_at(b, 0) == RIFF && u32_at(b, 8) == WAVE
 }
 
 #[derive(Clone, Copy)]
@@ -94,13 +74,10 @@ pub enum Chunk {
 
 // A chunk's first 8 bytes are its name and its size.
 pub fn chunk_of(b: &[u8]) -> Chunk {
-    let name = u32_at(b, 0);
-    if name == FMT {
-        Chunk::Format
-    } else if name == DATA {
-        Chunk::Data
-    } else {
-        Chunk::Other
+    match u32_at(b, 0) {
+        FMT => Chunk::Format,
+        DATA => Chunk::Data,
+        _ => Chunk::Other,
     }
 }
 
@@ -128,14 +105,12 @@ pub fn format_of(b: &[u8]) -> Format {
 
 // Whether the samples are 64-bit floats of one channel.
 pub fn is_mono_64(format: Format) -> bool {
-    (format.tag == 3) & (format.channels == 1) & (format.bits == 64)
+    format.tag == 3 && format.channels == 1 && format.bits == 64
 }
 
 // As many floats as `samples` has places, eight bytes each; bytes that are missing count as 0.
 pub fn get_samples(bytes: &[u8], samples: &mut [f64]) {
-    let mut at = 0usize;
-    for i in 0..samples.len() {
-        samples[i] = f64_at(bytes, at);
-        at = std::num::wrapping_add_usize(at, 8);
+    for (i, sample) in samples.iter_mut().enumerate() {
+        *sample = f64_at(bytes, i.wrapping_mul(8));
     }
 }

@@ -1,5 +1,5 @@
 -- Where `==` says 0, x is no NaN and its pattern decides; where it does not, x is not +0.
-use mathlib.Core.Path.{refl, sym, subst}
+use mathlib.Core.Path.{refl, sym, subst, ◌∙◌}
 use lib.Dec.{T}
 use Rattle.instrument_fields.specs.Unused.{is_plus_zero}
 use Rattle.instrument_fields.proofs.Zeros.{zero_no_nan, not_zero}
@@ -13,4 +13,4 @@ unfolding is_plus_zero
 returns-then-x c = refl
 
 pub returns-else-x : goal.returns-else-x
-returns-else-x c = sym (not_zero _ (subst T (sym c.well_formed.0.1) tt) c.if-x.false)
+returns-else-x c = c.if-x.false ∙ sym (not_zero _ (subst T (sym c.well_formed.0.1) tt) c.if-x.false)

@@ -1,58 +1,74 @@
--- The invariant: the sections of the first k keys are stored up to `at`, with m strings. One turn is `key_next`.
-use mathlib.Core.Path.{◌≡◌, refl, ◌∙◌}
+-- The invariant: the sections of the first keys are stored up to `at`, and `rest` is the strings of the others. One turn is `key_turn`.
+use mathlib.Core.Path.{◌≡◌, refl, ap, ◌∙◌}
+use mathlib.Core.List.{List}
 use native.Mathlib.Omega.{arith}
-use lib.ListN.{length}
+use lib.ListN.{length, take, get_or}
+use lib.Seq.{sets}
+use Rattle.std.proofs.lemmas.List.{length-take-le, get_or-take, length-drop}
 use Rattle.counting.specs.Below.{gather}
-use Rattle.instrument_writer.proofs.Loops.{at_none, key_fits, at_next, key_next}
+use Rattle.instrument_fields.specs.declared.KeyDesign.{KeyDesign}
+use Rattle.instrument_fields.specs.declared.LoopDesign.{LoopDesign}
+use Rattle.instrument.specs.Valid.{past_key, string_at, string_sum}
+use Rattle.instrument.specs.ValidLaws.{valid_counts, string_sum_none}
+use Rattle.instrument_encoding.specs.Encode.{key_bytes}
+use Rattle.instrument_writer.proofs.Loops.{at_none, key_fits, at_next, rest_next, key_turn}
 use Rattle.instrument_writer.proofs.put_keys.Goals as goal
 
-pub loop-k-init : goal.loop-k-init
+pub shared_ref_as_front-keys : goal.shared_ref_as_front-keys
+shared_ref_as_front-keys c = let counts = valid_counts c.args.i c.requires.0 in omega arith
+
+pub loop-key-init : goal.loop-key-init
 unfolding gather
-loop-k-init c =
+loop-key-init c =
     let a = c.args in
-    (refl, refl, at_none a.i a.p (length a.b.now) c.requires.0 c.requires.1, refl)
+    let counts = valid_counts a.i c.requires.0 in
+    (length-take-le a.i.key_count a.i.keys (omega arith), refl, rw string_sum_none refl, at_none a.i a.p (length a.b.now) c.requires.0 c.requires.1, refl)
 
-pub offset_bounds-i-k : goal.offset_bounds-i-k
-offset_bounds-i-k c = let fits = key_fits _ _ _ _ _ _ c.loop-k.invariant.2 (omega arith) in omega arith
-
-pub bounds-i-k : goal.bounds-i-k
-bounds-i-k c = let fits = key_fits _ _ _ _ _ _ c.loop-k.invariant.2 (omega arith) in omega arith
+pub split_at-requires : goal.split_at-requires
+split_at-requires c =
+    let i = c.args.i in
+    let k = c.loop-key.key-index in
+    let fits = key_fits _ _ _ _ _ c.loop-key.invariant.3 (omega (arith, c.loop-key.invariant.0)) in
+    let same = ap (λ (d : KeyDesign). d.strings) (get_or-take i.key_count i.keys k past_key (omega (arith, c.loop-key.invariant.0))) in
+    let left = ap (λ (l : List LoopDesign). length l) c.loop-key.invariant.2 ∙ length-drop (string_sum i.keys k) i.strings in
+    omega (arith, same, fits.strings, left)
 
 pub put_key-requires : goal.put_key-requires
-put_key-requires c = let fits = key_fits _ _ _ _ _ _ c.loop-k.invariant.2 (omega arith) in (omega arith, omega arith, omega arith)
+put_key-requires c =
+    let i = c.args.i in
+    let k = c.loop-key.key-index in
+    let fits = key_fits _ _ _ _ _ c.loop-key.invariant.3 (omega (arith, c.loop-key.invariant.0)) in
+    let same = ap (λ (d : KeyDesign). d.strings) (get_or-take i.key_count i.keys k past_key (omega (arith, c.loop-key.invariant.0))) in
+    (omega (arith, same, fits.ends, c.loop-key.invariant.1), omega (arith, same, fits.few), c.split_at.ensures.front_len)
 
-pub overflow_mul-at : goal.overflow_mul-at
-overflow_mul-at c = let fits = key_fits _ _ _ _ _ _ c.loop-k.invariant.2 (omega arith) in omega arith
+pub overflow_add-at-in-loop-key : goal.overflow_add-at-in-loop-key
+overflow_add-at-in-loop-key c =
+    let i = c.args.i in
+    let k = c.loop-key.key-index in
+    let fits = key_fits _ _ _ _ _ c.loop-key.invariant.3 (omega (arith, c.loop-key.invariant.0)) in
+    let same = ap (λ (d : KeyDesign). d.strings) (get_or-take i.key_count i.keys k past_key (omega (arith, c.loop-key.invariant.0))) in
+    omega (arith, same, fits.ends, c.loop-key.invariant.1)
 
-pub overflow_add-at : goal.overflow_add-at
-overflow_add-at c = let fits = key_fits _ _ _ _ _ _ c.loop-k.invariant.2 (omega arith) in omega arith
-
-pub overflow_add-at-in-loop-k : goal.overflow_add-at-in-loop-k
-overflow_add-at-in-loop-k c = let fits = key_fits _ _ _ _ _ _ c.loop-k.invariant.2 (omega arith) in omega arith
-
-pub overflow_add-m : goal.overflow_add-m
-overflow_add-m c = let fits = key_fits _ _ _ _ _ _ c.loop-k.invariant.2 (omega arith) in omega arith
-
-pub overflow_step-k : goal.overflow_step-k
-overflow_step-k c = let fits = key_fits _ _ _ _ _ _ c.loop-k.invariant.2 (omega arith) in omega arith
-
-pub loop-k-smaller : goal.loop-k-smaller
-loop-k-smaller c = omega arith
-
-pub loop-k-preserved : goal.loop-k-preserved
-loop-k-preserved c =
-    let a = c.args in (
-      c.loop-k.invariant.0,
-      c.put_key.auto.b ∙ c.loop-k.invariant.1,
-      at_next a.i a.p (length a.b.now) c.loop-k.at c.loop-k.m c.loop-k.k c.loop-k.invariant.2 (omega arith),
-      key_next a.i a.b.now c.loop-k.b _ a.p c.loop-k.m c.loop-k.k c.loop-k.at c.loop-k.invariant.2.sum c.loop-k.invariant.2.place c.loop-k.invariant.3 c.put_key.ensures,
+pub loop-key-preserved : goal.loop-key-preserved
+loop-key-preserved c =
+    let a = c.args in
+    let i = a.i in
+    let k = c.loop-key.key-index in
+    let here = get_or-take i.key_count i.keys k past_key (omega (arith, c.loop-key.invariant.0)) in
+    let same = ap (λ (d : KeyDesign). d.strings) here in
+    let front = ap (λ (l : List LoopDesign). sets c.loop-key.b c.loop-key.at (key_bytes (get_or (take i.key_count i.keys) k past_key) (λ j. string_at l j))) c.split_at.ensures.front in (
+      c.loop-key.invariant.0,
+      c.put_key.auto.b ∙ c.loop-key.invariant.1,
+      c.split_at.ensures.back ∙ rest_next i k _ same _ c.loop-key.invariant.2,
+      rw same (at_next i a.p (length a.b.now) c.loop-key.at k c.loop-key.invariant.3 (omega (arith, c.loop-key.invariant.0))),
+      key_turn i k a.b.now c.loop-key.b _ a.p c.loop-key.at _ _ here refl _ c.loop-key.invariant.2 c.loop-key.invariant.3.place c.loop-key.invariant.4
+          (c.put_key.ensures ∙ front),
     )
 
 pub shape_of-b : goal.shape_of-b
-shape_of-b c = c.loop-k.invariant.1
+shape_of-b c = c.loop-key.invariant.1
 
 pub returns : goal.returns
 returns c =
-    let below = c.loop-k.invariant.2.below in
-    let all : c.loop-k.k ≡ c.args.i.key_count = omega arith in
-    rw all at c.loop-k.invariant.3
+    let all : c.loop-key.key-index ≡ c.args.i.key_count = omega (arith, c.loop-key.invariant.0, c.loop-key.invariant.3.below) in
+    rw all at c.loop-key.invariant.4

@@ -1,16 +1,18 @@
--- The invariant: the sections of the first k keys are stored up to `at`, with m strings. One turn is `key_next`.
+-- The invariant: the sections of the first keys are stored up to `at`, and `rest` is the strings of the others. One turn is `key_turn`.
 use mathlib.Core.Path.{◌≡◌}
-use Prim.Native.Nat.{suc, ◌-◌}
-use lib.ListN.{length}
+use Prim.Native.Nat.{suc}
+use lib.ListN.{length, drop}
 use lib.Seq.{sets}
 use Rattle.counting.specs.Below.{gather}
+use Rattle.instrument.specs.Valid.{string_sum}
 use Rattle.instrument_encoding.specs.Encode.{section_bytes}
 use Rattle.instrument_writer.proofs.Loops.{AtKey}
 use Rattle.instrument_writer.proofs.put_keys.Given as goal
 
-abbrev pub invariant-loop-k : goal.invariant-loop-k
-invariant-loop-k l =
-    (l.k-end ≡ l.i.key_count) × (length l.b ≡ length l.initial.b) × AtKey l.i l.p (length l.initial.b) l.at l.m l.k × (l.b ≡ sets l.initial.b l.p (gather l.k (λ k. section_bytes l.i (suc k))))
-
-abbrev pub decreases-loop-k : goal.decreases-loop-k
-decreases-loop-k l = l.k-end - l.k
+abbrev pub invariant-loop-key : goal.invariant-loop-key
+invariant-loop-key l =
+    (length l.keys ≡ l.fn.i.key_count)
+    × (length l.b ≡ length l.initial.b)
+    × (l.rest ≡ drop (string_sum l.fn.i.keys l.key-index) l.fn.i.strings)
+    × AtKey l.fn.i l.p (length l.initial.b) l.at l.key-index
+    × (l.b ≡ sets l.initial.b l.p (gather l.key-index (λ k. section_bytes l.fn.i (suc k))))

@@ -1,6 +1,6 @@
 -- The invariant: the pairs of the first k keys are stored, and the next section starts at `offset`. One turn is `pair_next`.
 use mathlib.Core.Path.{◌≡◌}
-use Prim.Native.Nat.{suc, ◌-◌}
+use Prim.Native.Nat.{suc}
 use lib.ListN.{length}
 use lib.Seq.{sets}
 use Rattle.counting.specs.Below.{gather}
@@ -10,7 +10,7 @@ use Rattle.instrument_writer.proofs.put_pairs.Given as goal
 
 abbrev pub invariant-loop-k : goal.invariant-loop-k
 invariant-loop-k l =
-    (l.n ≡ l.i.key_count) × (length l.b ≡ length l.initial.b) × AtPair l.i (length l.initial.b) l.offset l.k × (l.b ≡ sets l.initial.b 12 (gather l.k (λ k. pair_bytes l.i (suc k))))
-
-abbrev pub decreases-loop-k : goal.decreases-loop-k
-decreases-loop-k l = l.n - l.k
+    (l.k-end ≡ l.fn.i.key_count)
+    × (length l.b ≡ length l.initial.b)
+    × AtPair l.fn.i (length l.initial.b) l.offset l.k
+    × (l.b ≡ sets l.initial.b 12 (gather l.k (λ k. pair_bytes l.fn.i (suc k))))

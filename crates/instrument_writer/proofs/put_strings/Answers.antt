@@ -1,7 +1,7 @@
 -- The invariant: the first j are stored. One turn is `string_next`.
 use mathlib.Core.Path.{◌≡◌, refl, ◌∙◌}
-use Prim.Native.Nat.{◌+◌}
 use native.Mathlib.Omega.{arith}
+use lib.ListN.{length}
 use Rattle.counting.specs.Below.{gather}
 use Rattle.instrument.specs.Valid.{string_at}
 use Rattle.instrument_writer.proofs.Loops.{string_next}
@@ -9,22 +9,21 @@ use Rattle.instrument_writer.proofs.put_strings.Goals as goal
 
 pub loop-j-init : goal.loop-j-init
 unfolding gather
-loop-j-init c = (omega arith, c.requires.1, c.requires.0, refl, refl)
+loop-j-init c = (refl, c.requires, refl, refl)
 
 pub loop-j-preserved : goal.loop-j-preserved
 loop-j-preserved c =
     let a = c.args in (
-      omega arith,
+      c.loop-j.invariant.0,
       c.loop-j.invariant.1,
-      c.loop-j.invariant.2,
-      c.put_string.auto.b ∙ c.loop-j.invariant.3,
-      string_next (λ j. string_at a.strings (a.m + j)) a.b.now c.loop-j.b _ a.p c.loop-j.j c.loop-j.invariant.4 c.put_string.ensures,
+      c.put_string.auto.b ∙ c.loop-j.invariant.2,
+      string_next (string_at a.strings.now) a.b.now c.loop-j.b _ a.p c.loop-j.j c.loop-j.invariant.3 c.put_string.ensures,
     )
 
 pub shape_of-b : goal.shape_of-b
-shape_of-b c = c.loop-j.invariant.3
+shape_of-b c = c.loop-j.invariant.2
 
 pub returns : goal.returns
 returns c =
-    let n : c.loop-j.j ≡ c.args.s = omega arith in
-    rw n at c.loop-j.invariant.4
+    let all : c.loop-j.j ≡ length c.args.strings.now = omega (arith, c.loop-j.invariant.0) in
+    rw all at c.loop-j.invariant.3

@@ -1,6 +1,6 @@
 -- The invariant: the first j are stored. One turn is `string_next`.
 use mathlib.Core.Path.{◌≡◌}
-use Prim.Native.Nat.{◌+◌, ◌*◌, ◌-◌, ◌≤◌}
+use Prim.Native.Nat.{◌+◌, ◌*◌, ◌≤◌}
 use lib.ListN.{length}
 use lib.Seq.{sets}
 use Rattle.counting.specs.Below.{gather}
@@ -10,7 +10,7 @@ use Rattle.instrument_writer.proofs.put_strings.Given as goal
 
 abbrev pub invariant-loop-j : goal.invariant-loop-j
 invariant-loop-j l =
-    (l.j ≤ l.s) × (l.m + l.s ≤ 32) × (l.p + 44 * l.s ≤ length l.initial.b) × (length l.b ≡ length l.initial.b) × (l.b ≡ sets l.initial.b l.p (gather l.j (λ j. string_bytes (string_at l.strings (l.m + j)))))
-
-abbrev pub decreases-loop-j : goal.decreases-loop-j
-decreases-loop-j l = l.s - l.j
+    (l.j-end ≡ length l.strings)
+    × (l.p + 44 * length l.strings ≤ length l.initial.b)
+    × (length l.b ≡ length l.initial.b)
+    × (l.b ≡ sets l.initial.b l.p (gather l.j (λ j. string_bytes (string_at l.strings j))))
