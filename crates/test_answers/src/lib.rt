@@ -30,6 +30,7 @@ impl From<bool> for Verdict {
 pub fn read_full<R: Read>(source: &mut R, buffer: &mut [u8]) -> io::Result<usize>
     ensures { IfOk result (λ n. n ≤ length buffer.new) }
 {
+    // the count is the answer: std's own loop over reads says little of it after an error
     let mut n: usize = 0;
     while n < buffer.len() {
         let got = source.read(&mut buffer[n..])?;
@@ -79,12 +80,12 @@ pub fn after_name<'a>(line: &'a [u8], name: &[u8]) -> Option<&'a [u8]> {
 
 pub fn alike(r: f64, word: u64) -> bool {
     let x = float_of(word);
-    if r != r { x != x } else { r == x }
+    if r.is_nan() { x.is_nan() } else { r == x }
 }
 
 // The same by their bits, zeros too; NaNs alike.
 pub fn same_bits(r: f64, word: u64) -> bool {
-    if r != r {
+    if r.is_nan() {
         alike(r, word)
     } else {
         f64::to_bits(r) == word

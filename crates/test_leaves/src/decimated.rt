@@ -1,7 +1,7 @@
 // Document 01's row of the decimator: "Decimate 5 finite inputs by 2 with the only nonzero tap 1 at index 63: inputs 0, 2, 4."
+use little_endian::bits_of;
 use refusal::Refusal;
 use std::io;
-use text::Bits;
 
 fn print_outputs(
     rt: &impl Print,
@@ -12,8 +12,11 @@ fn print_outputs(
         Ok(()) => 0,
         Err(refusal) => refusal.number(),
     };
-    let [a, b, c] = outputs.map(Bits);
-    println!(rt; "decimate: refusal {number}, outputs {a} {b} {c}")
+    print!(rt; "decimate: refusal {number}, outputs")?;
+    for output in outputs {
+        print!(rt; " {:016x}", bits_of(*output))?;
+    }
+    println!(rt;)
 }
 
 pub fn print_row(rt: &impl Print) -> io::Result<()> {

@@ -79,7 +79,7 @@ fn play(
 }
 
 // What it gives on the record, with the memory that is lent.
-fn call(
+fn number_given(
     rt: &impl Print,
     call: Call,
     instrument: Instrument,
@@ -136,7 +136,7 @@ fn try_in(
     for each in CALLS {
         print!(rt; " {} ", each.name())?;
         let before = memory_of(work, scratch);
-        let number = call(rt, each, instrument, session, work, scratch)?;
+        let number = number_given(rt, each, instrument, session, work, scratch)?;
         say_number(rt, number, before, memory_of(work, scratch))?;
     }
     Ok(())

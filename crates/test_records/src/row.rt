@@ -2,7 +2,7 @@
 // after it; `<P` and then `*N` copy N words from word P on. A number is decimal, or hexadecimal after an x.
 use crate::record::WORDS;
 use little_endian::{byte_at, part};
-use text::NumberError;
+use text::{NumberError, words_of};
 
 // Where the next word is stored and where the next is copied from.
 #[derive(Clone, Copy)]
@@ -54,12 +54,11 @@ pub fn change(words: &mut [u64; WORDS], row: &[u8]) -> Option<()> {
         to: WORDS,
         from: WORDS,
     };
-    for i in 0usize..64usize {
-        let word = text::word_at(row, i);
-        if word.is_empty() {
-            return Some(());
-        }
+    if 64 <= words_of(row).count() {
+        return None;
+    }
+    for word in words_of(row) {
         change_by(words, &mut cursor, word)?;
     }
-    None
+    Some(())
 }

@@ -11,7 +11,7 @@ use score::{Event, Score, TimedEvent};
 use std::io;
 use test_answers::{Verdict, after_name, read_words, without_feed};
 
-#[derive(Clone, Copy)]
+#[derive(Clone, Copy, Default)]
 struct Tally {
     renders: u64,
     blocks: u64,
@@ -173,14 +173,7 @@ fn report(rt: &impl Print, tally: &Tally) -> io::Result<()> {
 }
 
 fn replay(rt: &impl Print, text: &[u8]) -> io::Result<()> {
-    let mut tally = Tally {
-        renders: 0,
-        blocks: 0,
-        samples: 0,
-        forces: 0,
-        differing: 0,
-        unreadable: 0,
-    };
+    let mut tally = Tally::default();
     let mut cells = [0.0; CELLS];
     replay_lines(&mut tally, text, &mut cells);
     report(rt, &tally)

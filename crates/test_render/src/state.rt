@@ -18,7 +18,9 @@ fn mask(flags: &[bool; 16]) -> u64 {
 
 // The keys' counts, each beside its own word, and their sum, which is the Rust's one count.
 fn same_counts(counts: &[u64; 16], sum: u64, words: &[u64]) -> bool {
-    let all = counts.iter().fold(0u64, |all, count| all.wrapping_add(*count));
+    let all = counts
+        .iter()
+        .fold(0u64, |all, count| all.wrapping_add(*count));
     counts.as_slice() == words && all == sum
 }
 
