@@ -98,6 +98,9 @@ fn make_beside(
     path: &str,
 ) -> Result<(File, PathText), ReplaceError> {
     let folder = folder_of(path);
+    if LONGEST_PATH < folder.len() {
+        return Err(ReplaceError::NoneFree);
+    }
     for number in NAMES..2 * NAMES {
         let name = name_beside(folder, program.name, number);
         if name.as_str() != path {
