@@ -25,6 +25,8 @@ pub struct Place {
     pub at: usize,
 }
 
+// The loops over l count by hand: the number of a string, here.i + l, and of its row, l, go in step through lists that are written.
+
 // The rows of the next M strings.
 fn rows_of<const M: usize>(designs: &[StringDesign], here: Place) -> Rows
     requires m_bound { (M ≤ 4) × (here.i + M ≤ length designs.now) }
