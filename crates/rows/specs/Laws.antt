@@ -57,6 +57,10 @@ module _ (d : StringDesign) (o s z k : ℕ) (w : List Float) (hs : s < d.ap_coun
 
 -- ---- passes over a few strings
 
+-- a pass that keeps the length leaves room for the next
+pub few_still : {designs : List StringDesign} {here : Place} {m : ℕ} {w₀ w : List Float} → Few designs here m w₀ → length w ≡ length w₀ → Few designs here m w
+few_still r e = let room = r.room in record { few = r.few; known = r.known; fit = r.fit; start = r.start; room = omega (arith, room, e) }
+
 module _ (f : ℕ → StringDesign) where
   next : (k : ℕ) → string_start f (k + 1) ≡ string_start f k + size_at f k
   next k = start_next size_of f k
@@ -64,6 +68,10 @@ module _ (f : ℕ → StringDesign) where
   -- string k's cells are there where a later string's start is
   pub cells_fit : (k j : ℕ) → k < j → string_start f k + size_at f k ≤ string_start f j
   cells_fit k j h = ends_before (string_start f) (size_at f) next k j h
+
+  -- the same of a string that is known to be string k
+  pub string_fits : (k j : ℕ) → k < j → (d : StringDesign) → d ≡ f k → string_start f k + size_of d ≤ string_start f j
+  string_fits k j h d e = rw e (cells_fit k j h)
 
   pub cells_length : (k j : ℕ) (w : List Float) → k < j → string_start f j ≤ length w → length (cells_in f k w) ≡ size_of (f k)
   cells_length k j w h room =
@@ -146,6 +154,15 @@ module _ (f : ℕ → StringDesign) where
     long = refl;
     cells = record { same = refl; before = refl; each = λ l h. sym (splice_same (at_row (f (i + l))) 0 (cells_in f (i + l) w)); past = refl };
     values = λ l h. refl;
+  }
+
+  -- no row is laid yet
+  pub laid_none : (i : ℕ) (r : Rows) → r.stages ≤ 66 → Laid f i 0 r
+  laid_none i r h = record {
+    start = λ l q. let z : ⊥ = omega arith in absurd z;
+    coefficient = λ l q. let z : ⊥ = omega arith in absurd z;
+    enough = λ l q. let z : ⊥ = omega arith in absurd z;
+    most = h;
   }
 
   -- one more row is laid

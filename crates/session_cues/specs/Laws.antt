@@ -6,7 +6,7 @@ use Rattle.std.specs.List.{position_or_len}
 use Rattle.std.proofs.Common.{sym, ◌∙◌, ap, one-add, arith, ltb-true, lt-ltb, le-leb, eqb-true, leb-true}
 use Rattle.std.proofs.Math.Dec.{leb-suc-suc}
 use Rattle.std.proofs.lemmas.Bool.{not-true}
-use Rattle.std.proofs.lemmas.List.Sums.{passes_at_first}
+use Rattle.std.proofs.lemmas.List.Sums.{passes_at_first, prefix_len-le-length}
 use Rattle.score.specs.declared.Piano.{Piano}
 use Rattle.score.specs.Contacts.{contacts_of, hammer_on}
 use Rattle.positions.specs.Positions.{end, count, is_in, up_to, distinct, Same}
@@ -72,6 +72,9 @@ kept_in (c ∷ cs) (suc j) d h k = go c.kept (kept_in cs j d (omega arith) k)
 
 pub free_slot_free : (cs : List Cue) (d : Cue) → free_slot cs < length cs → (get_or cs (free_slot cs) d).kept ≡ false
 free_slot_free cs d h = not-true (get_or cs (free_slot cs) d).kept (passes_at_first is_free cs d h)
+
+pub free_slot_few : (cs : List Cue) → free_slot cs ≤ length cs
+free_slot_few cs = prefix_len-le-length (λ c. not (is_free c)) cs
 
 -- no slot is free where as many are kept as there are, and only there
 pub free_slot_full : (cs : List Cue) → ltb (free_slot cs) (length cs) ≡ ltb (length (kept_of cs)) (length cs)
