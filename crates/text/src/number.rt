@@ -85,7 +85,7 @@ pub struct Bits(pub f64);
 impl fmt::Display for Bits {
     fn fmt<W: fmt::Write>(&self, f: &mut fmt::Formatter<W>) -> fmt::Result {
         let x = self.0;
-        if x != x {
+        if x.is_nan() {
             return write!(f, "nan");
         }
         let bits = bits_of(x);
