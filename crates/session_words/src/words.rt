@@ -48,10 +48,12 @@ pub fn items_at<T: Words, const N: usize>(words: &[u64], at: usize) -> [T; N]
     requires { at + T.SIZE * N ≤ length words.now }
     ensures { result ≡ items_of T.value_of T.SIZE N (drop at words.now) }
 {
-    array::from_fn(|i|
-        requires { at + T.SIZE * i + T.SIZE ≤ length words.now }
-        ensures { result ≡ T.value_of (drop (at + T.SIZE * i) words.entry.now) }
-    { T::read(words, at + T::SIZE * i) })
+    array::from_fn(
+        |i|
+            requires { at + T.SIZE * i + T.SIZE ≤ length words.now }
+            ensures { result ≡ T.value_of (drop (at + T.SIZE * i) words.entry.now) }
+        { T::read(words, at + T::SIZE * i) },
+    )
 }
 
 // Whether each of the first n has a meaning.
@@ -59,10 +61,12 @@ pub fn all_stand<T: Words>(words: &[u64], at: usize, n: usize) -> bool
     requires { at + T.SIZE * n ≤ length words.now }
     ensures { result ≡ every (items_of T.has_meaning T.SIZE n (drop at words.now)) }
 {
-    (0..n).all(|i|
-        requires { at + T.SIZE * i + T.SIZE ≤ length words.now }
-        ensures { result ≡ T.has_meaning (drop (at + T.SIZE * i) words.entry.now) }
-    { T::stands_at(words, at + T::SIZE * i) })
+    (0..n).all(
+        |i|
+            requires { at + T.SIZE * i + T.SIZE ≤ length words.now }
+            ensures { result ≡ T.has_meaning (drop (at + T.SIZE * i) words.entry.now) }
+        { T::stands_at(words, at + T::SIZE * i) },
+    )
 }
 
 // A bool is 1 or 0.

@@ -11,7 +11,7 @@ returns-then-stands_at c =
 pub returns-else-words-eq-LENGTH : goal.returns-else-words-eq-LENGTH
 returns-else-words-eq-LENGTH c =
     elim c.else-words-eq-LENGTH.branch [
-      else-words-eq-LENGTH-via-then-words-eq-LENGTH+else-stands_at w ↦
+      | else-words-eq-LENGTH-via-then-words-eq-LENGTH+else-stands_at w ↦
           session_unknown c.args.words.now (sym w.stands_at.ensures ∙ w.if-stands_at.false)
-    | else-words-eq-LENGTH-via-else-words-eq-LENGTH w ↦ session_short c.args.words.now w.if-words-eq-LENGTH.false
+      | else-words-eq-LENGTH-via-else-words-eq-LENGTH w ↦ session_short c.args.words.now w.if-words-eq-LENGTH.false
     ]
