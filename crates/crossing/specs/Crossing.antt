@@ -1,5 +1,5 @@
--- What a call from C or Rust promises: refusals 1 to 6 of the file it is handed; 7 where its words are no session's; else the session's call on the session that the words are, whose outcome is
--- answered in numbers and written over the words. Definitions only: assumes nothing.
+-- What a call from C or Rust promises: refusals 1 to 6 of the file it is handed; 7 where its words are no session's; else the session's call
+-- on the session that the words are, whose outcome is answered in numbers and written over the words. Definitions only: assumes nothing.
 use Rattle.std.specs.Prelude.{◌≡◌, Bool, cond, List, ℕ, ◌*◌, eqb, length, Result, Ok, Err}
 use Rattle.refusal.specs.declared.Refusal.{Refusal}
 use Rattle.refusal.specs.Refusal.{number_of, number_in}
@@ -80,8 +80,10 @@ pub record Called (Promise : Outcome → Type 0) (w : List ℕ) (r : Report) (w'
   pub meets : Promise outcome
   pub keeps : Keeps outcome w r w'
 
--- f is the file; `whole` tells whether the words are a session's, for insert its numbers an event's too, for open whether there are as many words as a session has
+-- f is the file; `whole` tells whether the words are a session's, for insert its numbers an event's too, for open whether there are as
+-- many words as a session has
 -- Stays says that every lent cell but the words stayed, Promise what the session's call promises
-pub record Crosses (f : List ℕ) (whole : Bool) (w : List ℕ) (r : Report) (w' : List ℕ) (Stays : Type 0) (Promise : Instrument → Session → Outcome → Type 0) : Type 0 where
+pub record Crosses (f : List ℕ) (whole : Bool) (w : List ℕ) (r : Report) (w' : List ℕ) (Stays : Type 0)
+    (Promise : Instrument → Session → Outcome → Type 0) : Type 0 where
   pub refuses : (refused_at f whole ≡ 0 → ⊥) → (r ≡ refused_by (refused_at f whole)) × (w' ≡ w) × Stays
   pub calls : refused_at f whole ≡ 0 → Called (Promise (instrument_in (read_of f)) (session_of w)) w r w'

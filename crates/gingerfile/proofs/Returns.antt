@@ -35,7 +35,8 @@ use Rattle.gingerfile.specs.Energies.{no_energies, flat_in, Asks, EnergiesCross}
 
 -- ---- scratch, where the report tells the number: an accepted call answers 0, so another number is a refused one's
 
-pub report_stays : {number : ℕ} {scratch scratch' : List Float} {r : Report} {answer a : Result Answer Refusal} → r ≡ report_of answer → ScratchStays number scratch scratch'
+pub report_stays : {number : ℕ} {scratch scratch' : List Float} {r : Report} {answer a : Result Answer Refusal} → r ≡ report_of answer
+    → ScratchStays number scratch scratch'
     → (report_of a).refusal ≡ 0 → (number ≡ 0 → answer ≡ a) → ScratchStays r.refusal scratch scratch'
 report_stays er stays none accepted refused =
     stays (λ e. refused (ap (λ (x : Report). x.refusal) er ∙ ap (λ (x : Result Answer Refusal). (report_of x).refusal) (accepted e) ∙ none))

@@ -1,5 +1,6 @@
--- A session as words: t and the number of events; 64 events (position; kind 0 a strike, 1 a release, 2 the pedal, 3 a hand damp; key, or 1 for a pedal that is down; a strike's velocity,
--- else 0); four cues (1 where it is kept, position, its piano); the piano now: 616 in all, as Layout counts them. Definitions only: assumes nothing.
+-- A session as words: t and the number of events; 64 events (position; kind 0 a strike, 1 a release, 2 the pedal, 3 a hand damp; key, or
+-- 1 for a pedal that is down; a strike's velocity, else 0); four cues (1 where it is kept, position, its piano); the piano now: 616 in all,
+-- as Layout counts them. Definitions only: assumes nothing.
 use Rattle.std.specs.Prelude.{◌≡◌, Bool, true, false, cond, ◌&&◌, List, [], ◌∷◌, ◌++◌, ℕ, ◌%◌, eqb, leb, Float, length, get_or, drop}
 use Rattle.std.specs.Float.{binary64}
 use Rattle.std.specs.Float.Ieee.{of_bits, to_bits}

@@ -18,5 +18,6 @@ loop-i-preserved g c =
     let h = c.index-items-i.is in
     record {
       size = size_more w n i z.items.now x c.loop-i-test.true h c.loop-i.invariant.size c.put.ensures.size;
-      stored = stored_more w n i z.items.now x c.loop-i-test.true h c.loop-i.invariant.size z.words.now _ _ z.at c.loop-i.invariant.stored (rw c.SIZE.ensures at c.put.ensures.stored);
+      stored =
+          stored_more w n i z.items.now x c.loop-i-test.true h c.loop-i.invariant.size z.words.now _ _ z.at c.loop-i.invariant.stored (rw c.SIZE.ensures at c.put.ensures.stored);
     }
