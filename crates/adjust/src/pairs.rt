@@ -104,6 +104,7 @@ fn claim(pair: Result<Pair, Flaw>, named: &mut [bool; 256]) -> Result<(), Flaw> 
 // Each pair must be a key and a weight, and no key may come twice; else the first word that is wrong is named.
 pub fn check_words(program: &Program<'_, impl System>, given: Arguments) -> Result<(), Failure> {
     let mut named = [false; 256];
+    // the pairs stand on the command line, in no slice: they are counted
     for i in 0..pair_count(given) {
         if let Err(flaw) = claim(pair_at(program.rt, given, i), &mut named) {
             return Err(complain_of_pair(program, given, i, flaw));
@@ -126,6 +127,7 @@ pub fn check_keys(
     given: Arguments,
     instrument: Instrument,
 ) -> Result<(), Failure> {
+    // counted, as above
     for i in 0..pair_count(given) {
         if let Err(flaw) = check_key(pair_at(program.rt, given, i), instrument) {
             return Err(complain_of_pair(program, given, i, flaw));

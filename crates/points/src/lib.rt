@@ -35,7 +35,7 @@ pub struct Contact {
     pub memory: f64,
 }
 
-// The contacts of a sample, summed over the strings.
+// The contacts of a sample, summed over the strings. The flag is not the sum's: a sum has its value with no contact too.
 #[derive(Clone, Copy)]
 pub struct ForceSum {
     pub force_sum: f64,

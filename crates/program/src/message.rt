@@ -79,6 +79,7 @@ pub(crate) fn is_not_open(error: io::Error) -> bool {
 pub struct TransferError(pub io::Error);
 
 impl TransferError {
+    // Linux's own numbers, since the library has no kind for some of them.
     fn words(self) -> &'static str {
         match self.0.raw_os_error() {
             None | Some(0) | Some(DEVICE_FAILED) => "the device failed",

@@ -34,7 +34,8 @@ pub struct Score {
     pub count: usize,
 }
 
-// All of the piano's state that is not in its cells.
+// All of the piano's state that is not in its cells. Four arrays of one length: the session's words, which cross to C,
+// have them so.
 #[derive(Clone, Copy)]
 pub struct Piano {
     pub held: [bool; 16],

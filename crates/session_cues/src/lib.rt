@@ -13,7 +13,8 @@ use score_edits::END;
 
 #[derive(Clone, Copy)]
 pub struct Cue {
-    // A flag and no Option: in the words that cross to C a dropped slot keeps its position and its piano.
+    // A flag and no Option: in the words that cross to C a dropped slot keeps its position and its piano, as
+    // `drop_above` promises.
     pub kept: bool,
     pub position: u64,
     pub piano: Piano,

@@ -43,7 +43,8 @@ fn is_sound_session(keys: usize, session: &Session) -> bool
     (session.t <= END) & in_score & now & kept
 }
 
-// W, the cells of one part: of a valid instrument what the definition counts, as the calls above need it.
+// W, the cells of one part. `instrument::part_cells` counts those of any record; of a valid one they are the definition's,
+// which the calls above name.
 pub fn part_size(instrument: Instrument) -> usize
     requires { valid instrument ≡ true }
     ensures { result ≡ part_cells instrument }

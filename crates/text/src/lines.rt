@@ -130,7 +130,7 @@ impl<const N: usize> Reader<N> {
         self.whole(rest)
     }
 
-    // Where the next line stands.
+    // Where the next line stands. A source may give bytes for ever: a proof wants a bound on the turns.
     fn find<R: Read>(&mut self, source: &mut R) -> Result<Option<Range<usize>>, LineError> {
         for _ in 0..u64::MAX {
             if let Some(feed) = self.feed() {
