@@ -1,6 +1,6 @@
 -- An array made by a function of the index has at place k what the function gives of k, where no call changes the function.
 use Rattle.std.specs.Prelude.{◌≡◌, ℕ, zero, suc, ◌+◌, ◌<◌, slice_index_or, List}
-use Rattle.std.proofs.Common.{ap, ◌∙◌, arith, add-zero, zero-add}
+use Rattle.std.proofs.Common.{◌∙◌, arith, add-zero, zero-add}
 use Rattle.std.specs.Array.{IsFromFnResult, IsFromFnResultFrom}
 use denote.Param.Members.{Mut, Called}
 

@@ -12,7 +12,6 @@ use lib.Ieee.{Float}
 use Rattle.cells.specs.Numbered.{list_length}
 use Rattle.string.specs.declared.StringDesign.{StringDesign}
 use Rattle.instrument.specs.declared.Instrument.{Instrument}
-use Rattle.sample.specs.declared.Motion.{Motion}
 use Rattle.sample.specs.Sample.{Model, Step, Ready, sampled, counted_for}
 use Rattle.sample.specs.Laws.{sampled_force, sampled_same}
 use Rattle.sample_constants.specs.Model.{strings_of, string_in, model_of, key_in}

@@ -1,6 +1,6 @@
 -- Document 01, "One sample": "`render` gives the order: events whose position is not above t; dampers; all reads and loop filters; hammer and damper
 -- points; hammer motion; nut; bridge." All but the events, which crate `score` defines. Definitions only.
-use Rattle.std.specs.Prelude.{◌≡◌, List, [], ◌∷◌, Bool, true, false, cond, ◌&&◌, ℕ, ◌+◌, ◌≤◌, ◌<◌, ◌^◌, length, get_or, Option, None}
+use Rattle.std.specs.Prelude.{◌≡◌, List, Bool, cond, ◌&&◌, ℕ, ◌+◌, ◌≤◌, ◌<◌, ◌^◌, length, get_or, Option, None}
 use Rattle.std.specs.Prelude.{Some, is_some, option_map, option_to_list, Float}
 use Rattle.std.specs.Float.{binary64}
 use Rattle.std.specs.Float.Ieee.{add, sub, mul, div, lt}

@@ -1,6 +1,6 @@
 -- What document 01's rules compute from the instrument's record, in the Rust's order of operations: `dt`, `2.0 * z`, `r_base`, `ramp` and the like of
 -- `render`, the cuts of `StringWg::new`, and the key that a string belongs to (`key_of_offset`). Definitions only.
-use Rattle.std.specs.Prelude.{◌≡◌, ℕ, zero, suc, ◌+◌, ◌-◌, ◌<◌, cond, List, pos, nat_lt, Float}
+use Rattle.std.specs.Prelude.{◌≡◌, ℕ, zero, suc, ◌+◌, ◌-◌, ◌<◌, cond, List, pos, nat_lt}
 use Rattle.std.specs.Float.{binary64}
 use Rattle.std.specs.Float.Ieee.{add, mul, div, of_int}
 use Rattle.float.specs.Float.{min_of, max_of, one, two}

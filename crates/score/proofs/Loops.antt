@@ -1,23 +1,15 @@
 -- The loop over events, one turn each.
-use mathlib.Core.Path.{◌≡◌, refl, sym, ap, ◌∙◌}
+use mathlib.Core.Path.{◌≡◌, sym, ap, ◌∙◌}
 use mathlib.Core.List.{List, [], ◌∷◌}
-use mathlib.Core.Bool.{Bool, true, false, true≢false, false≢true}
-use Prim.Native.Nat.{ℕ, suc, ◌+◌, ◌-◌, ◌≤◌, ◌<◌}
+use Prim.Native.Nat.{ℕ, suc, ◌+◌, ◌≤◌, ◌<◌}
 use native.Mathlib.Numerals.{add-one}
-use native.Mathlib.Omega.{arith}
-use lib.Dec.{leb}
-use borrow.Author.Tests.{eq-eqb, ne_eqb, le-leb, lt-leb}
-use lib.ListN.{length, take, drop, get_or, set, length-set, drop_of_length-le, length-take}
-use lib.Seq.{drop-cons, get_or-take, get_or-set_same, get_or-set_other}
-use Rattle.cells.specs.Numbered.{one_more}
-use Rattle.counting.specs.Below.{sum_below}
-use Rattle.counting.specs.Sums.{sum_of}
-use Rattle.counting.specs.Laws.{sum_more}
+use borrow.Author.Tests.{eq-eqb, ne_eqb}
+use lib.ListN.{length, drop, get_or, drop_of_length-le}
+use lib.Seq.{drop-cons}
 use Rattle.instrument.specs.declared.Instrument.{Instrument}
 use Rattle.string.specs.declared.StringDesign.{StringDesign}
 use Rattle.score.specs.declared.TimedEvent.{TimedEvent}
-use Rattle.score.specs.declared.Piano.{Piano}
-use Rattle.score.specs.Events.{State, is_down, applied, apply_all}
+use Rattle.score.specs.Events.{State, applied, apply_all}
 use Rattle.score.specs.Score.{no_event, events_at}
 
 -- the events from i on that act at t give what all of them give

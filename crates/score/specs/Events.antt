@@ -1,6 +1,6 @@
 -- Document 01, "One sample": what an event does, as in `apply`. "An unknown key does nothing; a strike replaces the one hammer." Definitions only.
 use Rattle.float.specs.Float.{zero as +0}
-use Rattle.std.specs.Prelude.{List, [], ◌∷◌, Bool, true, false, cond, not, ◌&&◌, ◌||◌, ℕ, ◌≤◌, ◌<◌, ◌≡◌, eqb, ltb, length, get_or, set}
+use Rattle.std.specs.Prelude.{List, [], ◌∷◌, Bool, true, false, cond, not, ◌&&◌, ◌||◌, ℕ, ◌≤◌, ◌<◌, ◌≡◌, eqb, length, get_or, set}
 use Rattle.std.specs.Prelude.{Some, unwrap_or, option_map, Float}
 use Rattle.cells.specs.Parts.{map_parts}
 use Rattle.instrument.specs.declared.Instrument.{Instrument}

@@ -1,6 +1,6 @@
 -- What events keep, which samples have none, and what a sample in contact makes of the keys' counts.
 use Rattle.float.specs.Float.{zero as +0}
-use Rattle.std.specs.Prelude.{◌≡◌, refl, List, [], ◌∷◌, Bool, cond, ℕ, suc, ◌+◌, ◌≤◌, ◌<◌, ◌^◌, eqb, ltb, length, set, Option, None, Some}
+use Rattle.std.specs.Prelude.{◌≡◌, refl, List, [], ◌∷◌, Bool, cond, ℕ, ◌+◌, ◌≤◌, ◌<◌, ◌^◌, eqb, ltb, length, set, Option, None, Some}
 use Rattle.std.specs.Prelude.{IfSome, unwrap_or, option_map, map, filter, min, nat_le, Float}
 use Rattle.std.specs.List.{fold, reduce}
 use Rattle.std.proofs.Common.{◌∙◌, length-set, leb-true, leb-false}

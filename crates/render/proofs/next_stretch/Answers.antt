@@ -1,11 +1,10 @@
 -- `render::next_stretch` meets its contract: each call gives a field of `NextStretch`. The events act on the instrument's strings, and
 -- no event lies before the one that `next_event` found. Assumes nothing.
-use mathlib.Core.Path.{◌≡◌, refl, sym, ap, ◌∙◌}
-use mathlib.Core.List.{[]}
+use mathlib.Core.Path.{refl, sym, ◌∙◌}
 use Prim.Native.Nat.{ℕ, ◌+◌, ◌≤◌, ◌<◌}
 use native.Mathlib.Omega.{arith}
 use Rattle.std.specs.Prelude.{IfSome}
-use Rattle.score.specs.Score.{events_at, next_from}
+use Rattle.score.specs.Score.{next_from}
 use Rattle.score.specs.Laws.{next_after, none_at}
 use Rattle.render.proofs.next_stretch.Goals as goal
 use Rattle.render.proofs.next_stretch.Goals.{in-Some, in-None}

@@ -1,12 +1,10 @@
 -- `sample::sample` meets its contract: each call gives the equation of its pass, and `sample_is` puts them together in document 01's
 -- order. The cells that are lent stay as many through the calls, so each finds them ready. Assumes nothing.
 use borrow.Author.Rules.{rules}
-use mathlib.Core.Path.{ap, ◌∙◌}
+use mathlib.Core.Path.{◌∙◌}
 use mathlib.Core.Bool.{false}
-use native.Mathlib.Omega.{arith}
 use lib.ListN.{length, get_or, drop}
-use Rattle.std.specs.Prelude.{◌≡◌, Option, None, Some, MatchOption, IsSomeAnd, option_map, Float}
-use Rattle.points.specs.declared.Flight.{Flight}
+use Rattle.std.specs.Prelude.{◌≡◌, option_map}
 use Rattle.strings.specs.Laws.{fit_sound}
 use Rattle.sample.specs.Sample.{model_at}
 use Rattle.sample.specs.Laws.{ready_kept}

@@ -1,7 +1,7 @@
 -- `sample_constants::string_design` meets its contract: the search among the keys lent finds the string's key. Assumes nothing.
 use Rattle.std.proofs.Common.{◌≡◌, ℕ, ap, ◌∙◌, arith, rules, length}
 use Rattle.instrument.specs.Valid.{key_at, string_at}
-use Rattle.sample_constants.specs.Model.{owner_in, string_of, string_in}
+use Rattle.sample_constants.specs.Model.{string_of, string_in}
 use Rattle.sample_constants.specs.Laws.{owner_fits}
 use Rattle.sample_constants.proofs.KeySearch.{owner_lent}
 use Rattle.sample_constants.proofs.string_design.Goals as goal

@@ -1,6 +1,5 @@
 -- `score::apply_events` meets its contract: a turn acts where the event is at t, and goes on where it is not. Assumes nothing.
-use mathlib.Core.Path.{◌≡◌, refl, ap, ◌∙◌}
-use native.Mathlib.Omega.{arith}
+use mathlib.Core.Path.{refl, ap, ◌∙◌}
 use lib.ListN.{length, get_or}
 use Rattle.score.specs.Events.{State}
 use Rattle.score.specs.Score.{no_event}

@@ -1,11 +1,11 @@
 -- `score::contacts` meets its contract. The loop's invariant: the counts before this one are added up. Assumes nothing.
-use mathlib.Core.Path.{◌≡◌, refl, sym, ap, ◌∙◌}
+use mathlib.Core.Path.{◌≡◌, refl, ap, ◌∙◌}
 use Prim.Native.Nat.{◌+◌}
 use native.Mathlib.Omega.{arith}
 use lib.ListN.{length-take, get_or}
 use lib.Seq.{get_or-take}
 use borrow.Author.Rules.{rules}
-use Rattle.std.specs.Prelude.{◌≤◌, length}
+use Rattle.std.specs.Prelude.{length}
 use Rattle.counting.specs.Below.{sum_below}
 use Rattle.counting.specs.Sums.{sum_of}
 use Rattle.counting.specs.Laws.{sum_more, sum_grows}

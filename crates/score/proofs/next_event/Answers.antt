@@ -1,5 +1,5 @@
 -- `score::next_event` meets its contract: the chain yields the positions from `from` on, and `min` their least. Assumes nothing.
-use Rattle.std.proofs.Common.{◌≡◌, ℕ, refl, sym, rules, ◌∙◌}
+use Rattle.std.proofs.Common.{◌≡◌, ℕ, refl, rules, ◌∙◌}
 use Rattle.std.specs.Prelude.{Option, None, Some, option_map, nat_le}
 use borrow.Author.Tests.{tests}
 use Rattle.std.proofs.lemmas.Iterator.{YieldsList-from_slice, YieldsList-from_map}
