@@ -27,7 +27,7 @@ use Rattle.session_record.specs.Record.{record_refusal}
 use Rattle.session_record.specs.Laws.{Passed, passed}
 use Rattle.energies.specs.declared.KeyEnergy.{KeyEnergy}
 use Rattle.energies.specs.declared.Energies.{Energies}
-use Rattle.energies.specs.Energy.{no_energy, key_energy, energies_of, no_energies_for, EnergiesMeet}
+use Rattle.energies.specs.Energy.{no_energy, key_energy, energies_of, EnergiesMeet}
 use Rattle.energies.specs.Steps.{sums_after, pair_of}
 use Rattle.energies.proofs.Sums.{key_sum}
 

@@ -2,12 +2,11 @@
 use mathlib.Core.Path.{◌≡◌, refl, sym, ap, ◌∙◌}
 use mathlib.Core.Bool.{Bool, true, false}
 use mathlib.Core.List.{List, [], ◌∷◌, ◌++◌, map}
-use Prim.Native.Nat.{ℕ, ◌+◌, ◌-◌, ◌≤◌, ◌<◌}
-use native.Mathlib.Numerals.{add-one}
+use Prim.Native.Nat.{ℕ, ◌+◌, ◌-◌, ◌<◌}
 use native.Mathlib.Omega.{arith}
 use lib.Dec.{eqb}
-use lib.ListN.{length, take, drop, get_or, set, replicate, length-set, length-replicate, get_or-replicate, drop_of_length-le}
-use lib.Seq.{drop-cons, get_or-set_same, get_or-set_other}
+use lib.ListN.{length, take, drop, get_or, set, replicate, length-set, length-replicate, get_or-replicate}
+use lib.Seq.{get_or-set_same, get_or-set_other}
 use borrow.Author.Tests.{eqb-true, eqb-false}
 use lib.Ieee.{Float, nan, binary64, add}
 use Rattle.float.specs.Float.{zero as +0}
@@ -20,7 +19,7 @@ use Rattle.strings.specs.Walk.{WalkAt, at_turn}
 use Rattle.counting.specs.Below.{pad, tabulate}
 use Rattle.counting.specs.Laws.{length_tabulate, tabulate_more, pad_set}
 use Rattle.energies.specs.declared.KeyEnergy.{KeyEnergy}
-use Rattle.energies.specs.Energy.{sum_from, square, line_energy, string_energy, kept_if, of_key, no_energy}
+use Rattle.energies.specs.Energy.{sum_from, square, string_energy, kept_if, of_key, no_energy}
 use Rattle.energies.specs.Steps.{summed_into, sums_after}
 
 -- ---- a line

@@ -1,7 +1,7 @@
 -- `energies::key_energies` meets its contract: 7 and 8 are the session's, and what they let through has its first part. Assumes nothing.
 use mathlib.Core.Path.{sym}
 use native.Mathlib.Omega.{arith}
-use Rattle.energies.proofs.Call.{energies_refused, fine, part_there, energies_found}
+use Rattle.energies.proofs.Call.{fine, part_there}
 use Rattle.energies.proofs.key_energies.Goals as goal
 
 pub part_size-w-requires : goal.part_size-w-requires

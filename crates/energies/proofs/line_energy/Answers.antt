@@ -5,7 +5,7 @@ use borrow.Author.Rules.{rules}
 use lib.Ieee.{Float, binary64, add}
 use Rattle.std.proofs.lemmas.Fn.{fold_over, fronts, slice_gives}
 use Rattle.float.specs.Float.{zero as +0}
-use Rattle.energies.specs.Energy.{sum_from, square, line_energy}
+use Rattle.energies.specs.Energy.{sum_from, square}
 use Rattle.energies.proofs.Sums.{line_more}
 use Rattle.energies.proofs.line_energy.Goals as goal
 
