@@ -85,11 +85,11 @@ pub fn keep(words: &mut [u64], outcome: Outcome) -> Report
     ensures { Keeps outcome words.old result words.new }
 {
     match outcome.answer {
-        Err(refusal) => refused(refusal),
         Ok(answer) => {
             session_words::put_session(words, outcome.session);
             answered(answer)
         }
+        Err(refusal) => refused(refusal),
     }
 }
 
