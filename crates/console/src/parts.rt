@@ -6,15 +6,12 @@ use crate::{Console, Reply, Turn};
 use score_edits::END;
 use session::Answer;
 
-// More samples are refused as 16.
-const MOST_REPLAYED: u64 = 1000000;
-
 impl Console {
     // Where the next part of a go to p ends: at most `most` samples on. A go that is refused whole has no parts.
     fn stop_of(&self, p: u64, most: u64) -> u64 {
         let start = session_record::start_of(self.session, p);
         let way = p.wrapping_sub(start);
-        let is_whole = END < p || MOST_REPLAYED < way || way <= most;
+        let is_whole = END < p || session_record::LONGEST < way || way <= most;
         if is_whole {
             p
         } else {

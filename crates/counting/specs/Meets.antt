@@ -1,6 +1,5 @@
--- Document 01, "Numbers a call may give": what a call that may refuse promises. Its number is by equation; where it is
--- not 0, what a refusal leaves; where it is 0, what the accepted call
--- gives. Assumes nothing.
+-- Document 01, "Numbers a call may give": what a call that may refuse promises. Its number is by equation; where it
+-- is not 0, what a refusal leaves; where it is 0, what the accepted call gives. Assumes nothing.
 use Rattle.std.specs.Prelude.{◌≡◌, refl, ℕ, zero, suc}
 use Rattle.std.proofs.Common.{sym, ◌∙◌, subst, arith}
 

@@ -51,6 +51,7 @@ fn energy_at(cells: &[f64], a: usize, len: usize) -> f64
     line_energy(&cells[a..e])
 }
 
+// In the Rust's order, a line of the string at a time.
 fn string_energy(cells: &[f64], d: StringDesign) -> f64
     requires { Strung d cells.now }
     ensures { result ≡ string_energy d cells.now }

@@ -1,4 +1,5 @@
-// The keys: their dampers' moves, and the speeds at the bridge that their strings' sums give.
+// The keys: their dampers' moves, and the speeds at the bridge that their strings' sums give. Places are counted by `enumerate` where
+// a second list is read or written: of `zip` with `iter_mut` a proof knows nothing, and with `iter` no more than this way.
 #![tactic(auto)]
 
 ghost use Rattle.std.specs.Prelude.{◌≡◌, ◌≤◌, false, length, get_or};

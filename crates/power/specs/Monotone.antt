@@ -1,6 +1,6 @@
--- The power is not negative and grows with its operand, for every word, on the finite values from 0 on: each step is a
--- product or a root, which do. The word names a count of quarters
--- (specs/Laws.antt), so it is said of those. Assumes nothing.
+-- The power is not negative and grows with its operand, for every word, on the finite values from 0 on: each step is
+-- a product or a root, which do. The word names a count of quarters (specs/Laws.antt), so it is said of those.
+-- Assumes nothing.
 use Rattle.std.specs.Prelude.{◌≡◌, refl, Bool, true, false, cond, T, Float}
 use Rattle.std.proofs.Common.{sym, subst}
 use Prim.Native.Nat.{ℕ, zero, suc}

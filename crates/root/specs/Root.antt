@@ -1,7 +1,6 @@
 -- Document 01, "Power and root": "The root is correctly rounded, ties to even, stated by comparing whole squares;
--- subnormal numbers are scaled by their leading zeros; infinity gives
--- infinity, either zero itself, NaN and numbers below zero NaN." That this is IEEE 754's squareRoot is said in
--- specs/Law.antt. Definitions only: assumes nothing.
+-- subnormal numbers are scaled by their leading zeros; infinity gives infinity, either zero itself, NaN and numbers
+-- below zero NaN." That this is IEEE 754's squareRoot is said in specs/Law.antt. Definitions only: assumes nothing.
 use Rattle.std.specs.Prelude.{ℕ, zero, suc, ◌+◌, ◌-◌, ◌*◌, ◌/◌, ◌^◌, true, false, cond, nat_le, Float}
 use Prim.Native.Nat.{compare}
 use Rattle.std.specs.Float.{nan, inf, fin, Format, binary64}

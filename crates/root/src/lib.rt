@@ -114,7 +114,8 @@ fn approximate(bits: u64) -> f64
     s + e * (0.875 * y - 0.375 * y * y * s)
 }
 
-// m * 2^g.
+// m * 2^g. That a pattern is above 0 and below infinity's is said of each that is taken apart: a type for it would serve two private
+// functions, the one above the other.
 #[derive(Clone, Copy)]
 struct Shifted {
     m: u64,

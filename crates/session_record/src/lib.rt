@@ -1,5 +1,5 @@
 // Document 01, "Numbers a call may give": the session's record, its test in refusal 7, and for each call the refusals that concern
-// it, in their order.
+// it, in their order. Instrument, session and memory stay parameters one by one, as the calls have them that README names.
 #![tactic(auto)]
 
 ghost use Rattle.std.specs.Prelude.{◌≡◌, true, ◌≤◌};
@@ -18,7 +18,8 @@ use score::{Piano, TimedEvent};
 use score_edits::END;
 use session_cues::Cue;
 
-// The score is the first `count` events. What lies past it, and in slots that keep no cue, decides nothing.
+// The score is the first `count` events. What lies past it, and in slots that keep no cue, decides nothing. An array with its count:
+// nothing here may allocate, and the words that cross to C have all of it.
 #[derive(Clone, Copy)]
 pub struct Session {
     pub t: u64,
@@ -29,7 +30,7 @@ pub struct Session {
 }
 
 // The longest go.
-const LONGEST: u64 = 1000000;
+pub const LONGEST: u64 = 1000000;
 
 fn is_sound_session(keys: usize, session: &Session) -> bool
     ensures { result ≡ sound_session keys session.now }

@@ -27,7 +27,8 @@ pub struct Indices {
     pub c: usize,
 }
 
-// A string at sample t, with its lines' indices there. t is for the contracts alone: no code reads it.
+// A string at sample t, with its lines' indices there. t is for the contracts alone: no code reads it, and a ghost field holds a fact
+// and no number.
 #[derive(Clone, Copy)]
 pub struct StringAt {
     pub design: StringDesign,

@@ -1,4 +1,6 @@
-// The passes of one sample over all strings: each takes the strings' parts one after the other, and lends each string its own.
+// The passes of one sample over all strings: each takes the strings' parts one after the other, and lends each string its own. Where
+// a second list is written its places are counted by `enumerate`: of what went through `iter_mut().zip(..)` a proof knows nothing.
+// That the designs fit and the indices are theirs are clauses, and no struct's: the laws speak of lists that need not fit.
 #![tactic(auto)]
 
 ghost use Rattle.std.specs.Prelude.{◌≡◌, ◌+◌, ◌≤◌, length};

@@ -30,7 +30,7 @@ impl From<bool> for Verdict {
 pub fn read_full<R: Read>(source: &mut R, buffer: &mut [u8]) -> io::Result<usize>
     ensures { IfOk result (λ n. n ≤ length buffer.new) }
 {
-    // the count is the answer: std's own loop over reads says little of it after an error
+    // the library's own loop over reads says little of the count; that of the programs, read_all, promises nothing of it
     let mut n: usize = 0;
     while n < buffer.len() {
         let got = source.read(&mut buffer[n..])?;
@@ -40,6 +40,11 @@ pub fn read_full<R: Read>(source: &mut R, buffer: &mut [u8]) -> io::Result<usize
         n += got;
     }
     Ok(n)
+}
+
+// Room for a file.
+pub fn blank<const N: usize>() -> [u8; N] {
+    [0; N]
 }
 
 // A space and sixteen digits.

@@ -102,10 +102,6 @@ fn say_again(rt: &impl Print, path: &str, i: Instrument, file: &[u8]) -> io::Res
     say_refused(rt, path, "both", wrong, n - 1)
 }
 
-fn blank() -> [u8; 65536] {
-    [0u8; 65536]
-}
-
 // What a file's bytes are read as.
 fn say_file(rt: &impl Print, path: &str, file: &[u8]) -> io::Result<()> {
     match instrument_file::read(file) {
@@ -124,7 +120,7 @@ fn read_one(rt: &(impl Files + Print), path: &str) -> io::Result<()> {
     match File::open(rt, path) {
         Ok(opened) => {
             let mut source = opened;
-            let mut bytes = blank();
+            let mut bytes = test_answers::blank::<65536>();
             let n = read_full(&mut source, &mut bytes)?;
             say_file(rt, path, &bytes[..n])
         }

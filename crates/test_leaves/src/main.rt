@@ -82,12 +82,8 @@ fn replay(rt: &impl Print, text: &[u8]) -> io::Result<()> {
     report(rt, &tally)
 }
 
-fn blank() -> [u8; 262144] {
-    [0u8; 262144]
-}
-
 fn main(rt: HostRuntime) -> io::Result<()> {
-    let mut text = blank();
+    let mut text = test_answers::blank::<262144>();
     let n = test_answers::read_full(&mut rt.stdin(), &mut text)?;
     replay(&rt, &text[..n])?;
     decimated::print_row(&rt)?;

@@ -55,12 +55,8 @@ fn try_lines(rt: &impl Print, text: &[u8]) -> io::Result<()> {
     Ok(())
 }
 
-fn blank() -> [u8; 65536] {
-    [0u8; 65536]
-}
-
 fn main(rt: HostRuntime) -> io::Result<()> {
-    let mut text = blank();
+    let mut text = test_answers::blank::<65536>();
     let n = test_answers::read_full(&mut rt.stdin(), &mut text)?;
     try_lines(&rt, &text[..n])?;
     if n == 65536 {

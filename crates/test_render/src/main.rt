@@ -57,7 +57,8 @@ fn start(words: &[u64; WORDS], cells: &mut [f64; CELLS]) -> Render {
     silence(part(&file, 0, words[0] as usize))
 }
 
-// Kinds as the file numbers them: 0 a strike, 1 a release, 2 the pedal, whose key is 1 for down, and any other a hand damp.
+// Kinds as the file numbers them: 0 a strike, 1 a release, 2 the pedal, whose key is 1 for down, and any other a hand damp. The session's
+// words, which have the same numbers, refuse any other.
 fn event_of(kind: u64, key: u64, velocity: f64) -> Event {
     let number = (key % 256) as u8;
     match kind {
@@ -179,12 +180,8 @@ fn replay(rt: &impl Print, text: &[u8]) -> io::Result<()> {
     report(rt, &tally)
 }
 
-fn blank() -> [u8; 524288] {
-    [0u8; 524288]
-}
-
 fn main(rt: HostRuntime) -> io::Result<()> {
-    let mut text = blank();
+    let mut text = test_answers::blank::<524288>();
     let n = test_answers::read_full(&mut rt.stdin(), &mut text)?;
     replay(&rt, &text[..n])?;
     if n == 524288 {
