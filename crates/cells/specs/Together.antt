@@ -1,7 +1,6 @@
 -- Items whose cells lie one after the other, some of them worked on together, a step of each at a turn, in as many
--- passes as it takes: no item touches
--- another's cells, so what becomes of an item is said of its own cells alone. Any number of items, of any sizes; a list
--- of values is items of one cell.
+-- passes as it takes: no item touches another's cells, so what becomes of an item is said of its own cells alone. Any
+-- number of items, of any sizes; a list of values is items of one cell.
 use Rattle.std.specs.Prelude.{◌≡◌, length, take, set}
 use Rattle.std.proofs.Math.Path.{refl, sym, ap}
 use Rattle.std.proofs.Common.{◌∙◌, ⊎_elim, zero-add, le_trans, le_of_eq, lt_irrefl, eq-zero-or-pos, add-one, take-append-drop, drop-drop}

@@ -1,6 +1,6 @@
--- Document 01, "One sample": "With half = n + 0.5 × φ, the cuts round half × ratio, ties away from zero, clamped as in
--- `StringWg::new`; their three lengths sum to n."
--- A difference of whole numbers stops at 0 here, as the Rust's `saturating_sub` does. Definitions only: assumes nothing.
+-- Document 01, "One sample": "With half = n + 0.5 × φ, the cuts round half × ratio, ties away from zero, clamped as
+-- in `StringWg::new`; their three lengths sum to n." A difference of whole numbers stops at 0 here, as the Rust's
+-- `saturating_sub` does. Definitions only: assumes nothing.
 use Rattle.std.specs.Prelude.{ℕ, ◌+◌, ◌-◌, min, max, pos, Float}
 use Rattle.std.specs.Float.{binary64}
 use Rattle.std.specs.Float.Ieee.{add, mul, of_int}

@@ -1,6 +1,5 @@
 // The filters of a string's loop (document 01: Thiran, the dispersion stages, the loss), in place on lent cells. Each
-// is total: see `specs/Filter.antt`
-// for what fewer cells than a filter holds mean.
+// is total: see `specs/Filter.antt` for what fewer cells than a filter holds mean.
 #![tactic(auto)]
 
 ghost use Rattle.std.specs.Prelude.{◌≡◌, ◌+◌, ◌≤◌, length};
@@ -29,8 +28,8 @@ pub fn allpass(cells: &mut [f64], a: f64, x: f64) -> f64
     y
 }
 
-// The row of stages, each on its own two cells. It counts the cells: what the library's cuts into pairs lend is not known
-// once it is written.
+// The row of stages, each on its own two cells. The cells are counted: of a slice that `chunks_exact_mut` cuts, a proof
+// does not know what it holds afterwards, and the contract says every cell.
 pub fn dispersion(cells: &mut [f64], a: f64, x: f64) -> f64
     ensures { (result ≡ row_out a cells.old x) × (cells.new ≡ row_cells a cells.old x) }
 {

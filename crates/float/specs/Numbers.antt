@@ -11,6 +11,13 @@ use Rattle.std.specs.Float.Ieee.Compare.{differs_from_itself, nan_differs}
 pub differs_nan : (x : Float) → ne x x ≡ true → x ≡ nan
 differs_nan x h = differs_from_itself x (subst T (sym h) tt)
 
+-- there is one NaN
+pub one_nan : (x : Float) → is_nan x ≡ true → x ≡ nan
+unfolding is_nan
+one_nan nan h = refl
+one_nan (inf s) h = absurd (subst T (sym h) tt)
+one_nan (fin s m e) h = absurd (subst T (sym h) tt)
+
 -- what does not differ from itself is a number
 pub same_number : (x : Float) → ne x x ≡ false → is_nan x ≡ false
 unfolding is_nan

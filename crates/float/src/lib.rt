@@ -1,5 +1,6 @@
 // What the Rust takes from its library on f64: min, max, clamp, and rounding to a whole number. The methods of Rattle's own
-// library promise less: of two equal operands, as 0 and -0, either may come back, and `clamp` asks that lo is at most hi.
+// library promise less: of two equal operands, as 0 and -0, either may come back, also from `max(0.0)`; `clamp` asks that
+// lo is at most hi; and of `round` no proof here knows that it goes away from zero.
 #![tactic(auto)]
 
 ghost use Rattle.std.specs.Prelude.{◌≡◌};
@@ -12,7 +13,7 @@ pub fn min(a: f64, b: f64) -> f64
 {
     if a < b {
         a
-    } else if b != b {
+    } else if b.is_nan() {
         a
     } else {
         b
@@ -25,7 +26,7 @@ pub fn max(a: f64, b: f64) -> f64
 {
     if a < b {
         b
-    } else if a != a {
+    } else if a.is_nan() {
         b
     } else {
         a
@@ -63,7 +64,7 @@ pub fn round_away(x: f64) -> u64
         } else if x < 18446744073709551616.0 {
             std::num::truncating_f64_to_u64(x)
         } else {
-            0xffff_ffff_ffff_ffff
+            u64::MAX
         }
     } else {
         0

@@ -1,6 +1,6 @@
 -- For c0 and c1 above 0 and c0 / c1 at most half the largest value, the felt's force lies from 0 to the rounded c0 /
--- c1: each middle lies between the two ends that it
--- halves, and so does what the halvings end in. Nothing is asked of the test, so nothing of stiffness, exponent and memory. Assumes nothing.
+-- c1: each middle lies between the two ends that it halves, and so does what the halvings end in. Nothing is asked of
+-- the test, so nothing of stiffness, exponent and memory. Assumes nothing.
 use mathlib.Core.Path.{◌≡◌, refl, sym, subst}
 use Prim.Native.Nat.{ℕ, zero, suc, ◌-◌, ◌*◌, ◌^◌, ◌<◌, zero-le}
 use native.Mathlib.Nat.{le_of_eq, lt_of_le_of_lt}

@@ -1,7 +1,6 @@
--- Halvings by two opposite tests u and d in the place of a test t that is one of a threshold: where t finds the low end
--- that they leave too low, and the high end not,
--- t would have gone the same way at every turn, since each middle lies at or below the low end that is left, or at or
--- above the high one. Assumes nothing.
+-- Halvings by two opposite tests u and d in the place of a test t that is one of a threshold: where t finds the low
+-- end that they leave too low, and the high end not, t would have gone the same way at every turn, since each middle
+-- lies at or below the low end that is left, or at or above the high one. Assumes nothing.
 use mathlib.Core.Path.{◌≡◌, refl, sym, subst}
 use Prim.Native.Nat.{ℕ, zero, suc}
 use native.Mathlib.Nat.{le_of_eq}

@@ -1,6 +1,6 @@
 -- The middle of two values lies between them: their sum, rounded, lies between the doubles of the two, and its half
--- between the two. So a turn of halvings, which goes on
--- with one half or the other, may start where the one before it could. Assumes nothing.
+-- between the two. So a turn of halvings, which goes on with one half or the other, may start where the one before it
+-- could. Assumes nothing.
 use mathlib.Core.Path.{◌≡◌, refl, sym, ap, ◌∙◌, subst}
 use Prim.Native.Nat.{ℕ, suc, ◌+◌, ◌*◌, ◌^◌, ◌≤◌, ◌<◌, zero-le}
 use native.Mathlib.Nat.{le_trans, le_of_eq, lt_of_le_of_lt, one-mul, add-mul, mul_comm, mul_assoc, mul_left_comm, mul_right_comm}

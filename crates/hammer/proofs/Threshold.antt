@@ -1,6 +1,6 @@
 -- The felt's test is one of a threshold: a force that is too low stays too low further down. Less force leaves more
--- compression, its power is no smaller, and so the
--- felt's force is no smaller: each rounded operation keeps order. It holds for moderate numbers. Assumes nothing.
+-- compression, its power is no smaller, and so the felt's force is no smaller: each rounded operation keeps order. It
+-- holds for moderate numbers. Assumes nothing.
 use mathlib.Core.Path.{◌≡◌, refl, sym, ap, ◌∙◌, subst}
 use mathlib.Core.Logic.{◌⊎◌, inl, inr}
 use mathlib.Core.Bool.{true, false≢true}

@@ -2,7 +2,8 @@
 #![tactic(auto)]
 
 ghost use Rattle.std.specs.Prelude.{◌≡◌, true, cond, ◌⊎◌, IfOk};
-ghost use Rattle.std.specs.Float.Ieee.{eq};
+ghost use Rattle.std.specs.Float.{binary64};
+ghost use Rattle.std.specs.Float.Ieee.{eq, div};
 ghost use Rattle.float.specs.Float.{zero as +0};
 ghost use Rattle.hammer.specs.Contact.{felt_force, bisect, force_of, ForceBound};
 ghost use Rattle.hammer.specs.Guess.{too_low, low_by_guess, high_by_guess, Moderate, AllModerate};
@@ -205,55 +206,58 @@ pub struct Search {
     pub way: Way,
 }
 
+impl Contact {
+    // The force of a felt that pushes with f0 where it is free. Two trials by a guess nearly always find what the
+    // felt's own tests would.
+    fn search(self, f0: f64) -> Search
+        ensures { result.force ≡ bisect (too_low self.hammer self.eps_r self.c0 self.c1) 50 +0 (div binary64 self.c0 self.c1) }
+    {
+        let top = self.c0 / self.c1;
+        if self.may_guess(top) {
+            match self.try_guess(top, self.estimate_force(f0, top)) {
+                Ok(force) => {
+                    return Search {
+                        force,
+                        way: Way::FirstGuess,
+                    };
+                }
+                Err(next) => {
+                    if let Ok(force) = self.try_guess(top, next) {
+                        return Search {
+                            force,
+                            way: Way::SecondGuess,
+                        };
+                    }
+                }
+            }
+        }
+        Search {
+            force: self.bisect_force(top),
+            way: Way::Halved,
+        }
+    }
+}
+
 // The force F at which the felt, compressed by c0 - c1 F, pushes with F: it falls as F grows, so
-// halving closes in on the one root. Two trials by a guess nearly always find what the felt's own
-// tests would.
+// halving closes in on the one root.
 pub fn search_force(hammer: Hammer, eps_r: f64, c0: f64, c1: f64) -> Search
     ensures { result.force ≡ force_of hammer eps_r c0 c1 }
 {
+    let none = Search {
+        force: 0.0,
+        way: Way::NoForce,
+    };
+    if c0 <= 0.0 {
+        return none;
+    }
     let contact = Contact {
         hammer,
         eps_r,
         c0,
         c1,
     };
-    if c0 <= 0.0 {
-        return Search {
-            force: 0.0,
-            way: Way::NoForce,
-        };
-    }
     let f0 = contact.felt_force(c0);
-    if f0 <= 0.0 {
-        return Search {
-            force: 0.0,
-            way: Way::NoForce,
-        };
-    }
-    let top: f64 = c0 / c1;
-    if contact.may_guess(top) {
-        let guess = contact.estimate_force(f0, top);
-        match contact.try_guess(top, guess) {
-            Ok(force) => {
-                return Search {
-                    force,
-                    way: Way::FirstGuess,
-                };
-            }
-            Err(next) => {
-                if let Ok(force) = contact.try_guess(top, next) {
-                    return Search {
-                        force,
-                        way: Way::SecondGuess,
-                    };
-                }
-            }
-        }
-    }
-    Search {
-        force: contact.bisect_force(top),
-        way: Way::Halved,
-    }
+    if f0 <= 0.0 { none } else { contact.search(f0) }
 }
 
 // The force alone. For c0 and c1 finite and above 0, with c0 / c1 at most half the largest f64, it lies

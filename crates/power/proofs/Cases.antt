@@ -4,9 +4,9 @@ use Prim.Native.Nat.{ℕ, zero, suc, ◌-◌, ◌≤◌, ◌<◌}
 use native.Mathlib.Omega.{arith}
 use mathlib.Core.Bool.{true, false}
 use borrow.Author.Tests.{lt-ltb, le-ltb}
-use lib.Ieee.{Float, binary64, mul, lt, ne, is_nan}
+use lib.Ieee.{Float, binary64, mul, lt, is_nan}
 use Rattle.float.specs.Float.{zero as +0}
-use Rattle.float.specs.Numbers.{differs_nan, same_number}
+use Rattle.float.specs.Numbers.{one_nan}
 use Rattle.root.specs.Root.{root_of}
 use Rattle.power.specs.Power.{halves_above, quarters_above, power_above, power_of}
 
@@ -85,10 +85,10 @@ quarters_more x r word t l q =
 
 -- ---- no number above 0
 
-pub power_nan : (x : Float) (word : ℕ) → lt +0 x ≡ false → ne x x ≡ true → x ≡ power_of x word
+pub power_nan : (x : Float) (word : ℕ) → lt +0 x ≡ false → is_nan x ≡ true → x ≡ power_of x word
 unfolding power_of is_nan
-power_nan x word t n = rw t (rw (differs_nan x n))
+power_nan x word t n = rw t (rw (one_nan x n))
 
-pub power_none : (x : Float) (word : ℕ) → lt +0 x ≡ false → ne x x ≡ false → +0 ≡ power_of x word
+pub power_none : (x : Float) (word : ℕ) → lt +0 x ≡ false → is_nan x ≡ false → +0 ≡ power_of x word
 unfolding power_of
-power_none x word t n = rw (t, same_number x n)
+power_none x word t n = rw (t, n)

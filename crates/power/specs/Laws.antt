@@ -1,6 +1,5 @@
--- Halves h and quarters 2h agree on every x, since each step of two halves is one of four quarters: both multiply by x.
--- So every word names a count of quarters, and a law of the
--- power need only be proved of those. Assumes nothing.
+-- Halves h and quarters 2h agree on every x, since each step of two halves is one of four quarters: both multiply by
+-- x. So every word names a count of quarters, and a law of the power need only be proved of those. Assumes nothing.
 use Rattle.std.specs.Prelude.{◌≡◌, refl, ℕ, zero, suc, ◌+◌, ◌-◌, ◌*◌, ◌<◌, Bool, true, false, cond, ltb, Float}
 use Rattle.std.proofs.Common.{ap, ◌∙◌, arith, lt-ltb, le-ltb}
 use Rattle.std.specs.Float.{binary64}

@@ -16,8 +16,7 @@ halves_above x (suc (suc (suc zero))) = mul binary64 x (root_of x)
 halves_above x (suc (suc (suc (suc h)))) = mul binary64 (halves_above x (suc (suc h))) x
 
 -- W5: "the power is x for e = 4, x × root(root(x)) for 5, x × root(x) for 6, (x × root(x)) × root(root(x)) for 7, and
--- above that the power of e − 4, times x."
--- No instrument has an e below 4; there it goes as for 4.
+-- above that the power of e − 4, times x." No instrument has an e below 4; there it goes as for 4.
 unfoldable pub quarters_above : Float → ℕ → Float
 unfolding mul root_of
 quarters_above x zero = x

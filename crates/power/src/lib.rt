@@ -41,7 +41,7 @@ pub fn power(x: f64, word: u32) -> f64
         } else {
             power(x, word - 4) * x
         }
-    } else if x != x {
+    } else if x.is_nan() {
         x
     } else {
         0.0

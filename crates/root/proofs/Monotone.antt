@@ -1,6 +1,5 @@
 -- The root grows with its operand, at the numbers above zero, and is such a number: a root that fell would have both
--- operands on the wrong side of the middle of the two roots,
--- which `root_correct` says by squares. Assumes nothing.
+-- operands on the wrong side of the middle of the two roots, which `root_correct` says by squares. Assumes nothing.
 use Rattle.std.proofs.Common.{◌≡◌, ℕ, ◌+◌, ◌*◌, ◌^◌, ◌<◌, ◌≤◌, false, T, negsuc, sym, refl, ap, subst, inl, inr, mul-le-mul_right}
 use Rattle.std.proofs.Common.{eq-zero-or-pos, mul-pos, arith, pow_pos}
 use lib.Ieee.{Float, fin, binary64, le, fits}

@@ -185,6 +185,6 @@ pub fn root(x: f64) -> f64
     } else if x == 0.0 {
         x
     } else {
-        0.0 / 0.0
+        f64::NAN
     }
 }

@@ -1,4 +1,5 @@
 -- `power::power` meets its contract: each way out is a law of proofs/Cases.antt. Assumes nothing.
+use mathlib.Core.Path.{sym, ◌∙◌}
 use Rattle.power.proofs.Cases.{halves_two, halves_three, halves_more, quarters_few, quarters_more, power_nan, power_none}
 use Rattle.power.proofs.+power.Goals as goal
 
@@ -21,8 +22,8 @@ returns-else-word-lt264 t c =
     let a = c.args in
     quarters_more a.x c.power-else-word-lt264.result a.word c.if-x.true c.if-word-lt264.false c.power-else-word-lt264.ensures
 
-pub returns-then-x-2 : goal.returns-then-x-2
-returns-then-x-2 t c = power_nan c.args.x c.args.word c.if-x.false c.if-x-2.true
+pub returns-then-is_nan : goal.returns-then-is_nan
+returns-then-is_nan t c = power_nan c.args.x c.args.word c.if-x.false (sym c.is_nan.ensures.value ∙ c.if-is_nan.true)
 
-pub returns-else-x-2 : goal.returns-else-x-2
-returns-else-x-2 t c = power_none c.args.x c.args.word c.if-x.false c.if-x-2.false
+pub returns-else-is_nan : goal.returns-else-is_nan
+returns-else-is_nan t c = power_none c.args.x c.args.word c.if-x.false (sym c.is_nan.ensures.value ∙ c.if-is_nan.false)
