@@ -9,7 +9,8 @@ ghost use Rattle.little_endian.specs.Numbers.{u32_at};
 ghost use Rattle.instrument_fields.specs.Ranges.{string_in_range};
 ghost use Rattle.instrument_fields.specs.Unused.{no_key, no_string};
 ghost use Rattle.instrument.specs.Valid.{string_sum};
-ghost use Rattle.instrument_file.specs.File.{offset_of, length_of, section, key_section, headed, linked, chained, measured_key, measured, loop_in, fielded_key, fielded, keys_in, strings_in, instrument_of, read_of};
+ghost use Rattle.instrument_file.specs.File.{offset_of, length_of, section, key_section, headed, linked, chained, measured_key, measured};
+ghost use Rattle.instrument_file.specs.File.{loop_in, fielded_key, fielded, keys_in, strings_in, instrument_of, read_of};
 
 use instrument::{Instrument, keys_apart, string_sum};
 use instrument_fields::{
@@ -90,7 +91,8 @@ impl<'a> Sections<'a> {
     // Offset and length of section i, as the table has them.
     fn pair(self, i: usize) -> (usize, usize)
         requires { i ≤ self.keys }
-        ensures { (result.0 ≡ offset_of self.entry.file.now i) × (result.1 ≡ length_of self.entry.file.now i) × (result.0 < 0x1_0000_0000) × (result.1 < 0x1_0000_0000) }
+        ensures { (result.0 ≡ offset_of self.entry.file.now i) × (result.1 ≡ length_of self.entry.file.now i)
+            × (result.0 < 0x1_0000_0000) × (result.1 < 0x1_0000_0000) }
     {
         let offset = u32_at(self.file, 4 + 8 * i);
         let length = u32_at(self.file, 8 + 8 * i);

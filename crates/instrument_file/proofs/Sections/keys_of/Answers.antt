@@ -8,4 +8,6 @@ use Rattle.instrument_file.proofs.Sections.keys_of.Goals as goal
 
 pub returns : goal.returns
 unfolding keys_in
-returns c = front_filled _ no_key _ 16 c.args.self.keys _ _ c.read_keys.ensures (length-take-le c.args.self.keys (replicate 16 c.no_key-out.result) c.args.self.few) c.no_key-out.ensures
+returns c =
+    front_filled _ no_key _ 16 c.args.self.keys _ _ c.read_keys.ensures
+    (length-take-le c.args.self.keys (replicate 16 c.no_key-out.result) c.args.self.few) c.no_key-out.ensures

@@ -31,7 +31,8 @@ loop-k-preserved c =
     let same = ap (λ (d : KeyDesign). d.strings) (get_or-take c.args.self.keys c.args.keys i past_key (omega (arith, c.loop-k.invariant.0))) in (
       c.loop-k.invariant.0,
       refl,
-      strings_turn c.loop-k.invariant.2 (omega (arith, c.loop-k.invariant.0)) c.section.array_long same (omega arith) (omega (arith, same, room)) c.section.ensures c.read_strings.ensures,
+      strings_turn c.loop-k.invariant.2 (omega (arith, c.loop-k.invariant.0)) c.section.array_long same
+          (omega arith) (omega (arith, same, room)) c.section.ensures c.read_strings.ensures,
     )
 
 pub returns : goal.returns
