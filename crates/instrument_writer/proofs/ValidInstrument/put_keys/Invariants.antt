@@ -7,12 +7,12 @@ use Rattle.counting.specs.Below.{gather}
 use Rattle.instrument.specs.Valid.{string_sum}
 use Rattle.instrument_encoding.specs.Encode.{section_bytes}
 use Rattle.instrument_writer.proofs.Loops.{AtKey}
-use Rattle.instrument_writer.proofs.put_keys.Given as goal
+use Rattle.instrument_writer.proofs.ValidInstrument.put_keys.Given as goal
 
 abbrev pub invariant-loop-key : goal.invariant-loop-key
 invariant-loop-key l =
-    (length l.keys ≡ l.fn.i.key_count)
+    (length l.keys ≡ l.self.instrument.key_count)
     × (length l.b ≡ length l.initial.b)
-    × (l.rest ≡ drop (string_sum l.fn.i.keys l.key-index) l.fn.i.strings)
-    × AtKey l.fn.i l.p (length l.initial.b) l.at l.key-index
-    × (l.b ≡ sets l.initial.b l.p (gather l.key-index (λ k. section_bytes l.fn.i (suc k))))
+    × (l.rest ≡ drop (string_sum l.self.instrument.keys l.key-index) l.self.instrument.strings)
+    × AtKey l.self.instrument l.p (length l.initial.b) l.at l.key-index
+    × (l.b ≡ sets l.initial.b l.p (gather l.key-index (λ k. section_bytes l.self.instrument (suc k))))

@@ -6,11 +6,11 @@ use lib.Seq.{sets}
 use Rattle.counting.specs.Below.{gather}
 use Rattle.instrument_writer.specs.Pieces.{pair_bytes}
 use Rattle.instrument_writer.proofs.Loops.{AtPair}
-use Rattle.instrument_writer.proofs.put_pairs.Given as goal
+use Rattle.instrument_writer.proofs.ValidInstrument.put_pairs.Given as goal
 
 abbrev pub invariant-loop-k : goal.invariant-loop-k
 invariant-loop-k l =
-    (l.k-end ≡ l.fn.i.key_count)
+    (l.k-end ≡ l.self.instrument.key_count)
     × (length l.b ≡ length l.initial.b)
-    × AtPair l.fn.i (length l.initial.b) l.offset l.k
-    × (l.b ≡ sets l.initial.b 12 (gather l.k (λ k. pair_bytes l.fn.i (suc k))))
+    × AtPair l.self.instrument (length l.initial.b) l.offset l.k
+    × (l.b ≡ sets l.initial.b 12 (gather l.k (λ k. pair_bytes l.self.instrument (suc k))))
