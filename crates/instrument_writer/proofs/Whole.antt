@@ -28,7 +28,8 @@ module _ (i : Instrument) where
   n = i.key_count
 
   -- the table, and the sections behind it
-  pub file_stored : (l l₁ l₂ : List ℕ) → l₁ ≡ sets l 0 (table_bytes i) → l₂ ≡ sets l₁ (12 + 8 * n) (gather (n + 1) (section_bytes i)) → l₂ ≡ sets l 0 (encode i)
+  pub file_stored : (l l₁ l₂ : List ℕ) → l₁ ≡ sets l 0 (table_bytes i)
+      → l₂ ≡ sets l₁ (12 + 8 * n) (gather (n + 1) (section_bytes i)) → l₂ ≡ sets l 0 (encode i)
   file_stored l l₁ l₂ e g =
       let size = 12 + 8 * n in
       stored_then l l₁ l₂ (table_bytes i) (gather (n + 1) (section_bytes i)) 0 size size (table_length i) (sym (zero-add size)) e g ∙ ap (sets l 0) (table_sections i)

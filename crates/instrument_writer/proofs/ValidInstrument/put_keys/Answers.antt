@@ -22,8 +22,13 @@ unfolding gather
 loop-key-init c =
     let a = c.args in
     let i = a.self.now.instrument in
-    let counts = valid_counts i a.self.now.valid in
-    (length-take-le i.key_count i.keys (omega (arith, a.self.now.places.0)), refl, rw string_sum_none refl, at_none i a.p (length a.b.now) a.self.now.valid c.requires, refl)
+    let counts = valid_counts i a.self.now.valid in (
+      length-take-le i.key_count i.keys (omega (arith, a.self.now.places.0)),
+      refl,
+      rw string_sum_none refl,
+      at_none i a.p (length a.b.now) a.self.now.valid c.requires,
+      refl,
+    )
 
 pub split_at-requires : goal.split_at-requires
 split_at-requires c =
@@ -57,7 +62,10 @@ loop-key-preserved c =
     let k = c.loop-key.key-index in
     let here = get_or-take i.key_count i.keys k past_key (omega (arith, c.loop-key.invariant.0)) in
     let same = ap (λ (d : KeyDesign). d.strings) here in
-    let front = ap (λ (l : List LoopDesign). sets c.loop-key.b c.loop-key.at (key_bytes (get_or (take i.key_count i.keys) k past_key) (λ j. string_at l j))) c.split_at.ensures.front in (
+    let front =
+    ap
+    (λ (l : List LoopDesign). sets c.loop-key.b c.loop-key.at (key_bytes (get_or (take i.key_count i.keys) k past_key) (λ j. string_at l j)))
+    c.split_at.ensures.front in (
       c.loop-key.invariant.0,
       c.put_key.auto.b ∙ c.loop-key.invariant.1,
       c.split_at.ensures.back ∙ rest_next i k _ same _ c.loop-key.invariant.2,

@@ -58,7 +58,9 @@ pub loop-k-preserved : goal.loop-k-preserved
 loop-k-preserved c =
     let a = c.args in
     let k = c.loop-k.k in
-    let same = ap (λ (d : KeyDesign). d.strings) (get_or-take a.self.now.instrument.key_count a.self.now.instrument.keys k past_key (omega (arith, c.loop-k.invariant.0))) in (
+    let same =
+    ap (λ (d : KeyDesign). d.strings)
+    (get_or-take a.self.now.instrument.key_count a.self.now.instrument.keys k past_key (omega (arith, c.loop-k.invariant.0))) in (
       c.loop-k.invariant.0,
       c.put_pair.auto.b ∙ c.loop-k.invariant.1,
       rw same (pair_on a.self.now.instrument (length a.b.now) c.loop-k.offset k c.loop-k.invariant.2 (omega (arith, c.loop-k.invariant.0))),
