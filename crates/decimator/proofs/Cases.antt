@@ -92,7 +92,8 @@ only false true c d e = absurd (omega arith)
 only false false false d e = absurd (omega arith)
 only false false true false e = absurd (omega arith)
 
-pub none_refused : (x taps out : List Float) (factor r : ℕ) → r ≡ refusal_of (length x) (length taps) factor (length out) → r ≡ 0 → 1 < factor → Thins x taps factor out
+pub none_refused : (x taps out : List Float) (factor r : ℕ)
+    → r ≡ refusal_of (length x) (length taps) factor (length out) → r ≡ 0 → 1 < factor → Thins x taps factor out
 unfolding refusal_of
 none_refused x taps out factor r e z h =
     let f = only (ltb 64 factor) (ltb 1048576 (length x)) (eqb (length taps) 127) (eqb (length out) (output_length (length x) factor)) (sym e ∙ z) in
@@ -128,8 +129,12 @@ module _ (x taps : List Float) (at k : ℕ) (sum : Float) where
   unfolding weighed
   past_last h l = rw (le-leb 63 (at + k) h, le-ltb (at + k - 63) (length x) l)
 
+-- what each way out of `weigh` has to say
+pub ruleset ways = (before_first, meets, past_last)
+
 -- the taps, one after the other
-pub tap_sum_fold : (x taps : List Float) (at n : ℕ) → fold (λ (s : Float) (k : ℕ). weighed x taps at k s) +0 (range_with_len 0 n) ≡ tap_sum x taps at n
+pub tap_sum_fold : (x taps : List Float) (at n : ℕ)
+    → fold (λ (s : Float) (k : ℕ). weighed x taps at k s) +0 (range_with_len 0 n) ≡ tap_sum x taps at n
 unfolding tap_sum
 tap_sum_fold x taps at zero = refl
 tap_sum_fold x taps at (suc n) =

@@ -1,4 +1,5 @@
--- A signal may be decimated window by window: where a window reaches 63 samples to either side of a sample, or ends where the signal does, every tap meets there what it meets in the whole
+-- A signal may be decimated window by window: where a window reaches 63 samples to either side of a sample, or ends
+-- where the signal does, every tap meets there what it meets in the whole
 -- signal, and the filtered sample is the same. The program `decimate` goes by it. Assumes nothing.
 use mathlib.Core.Path.{◌≡◌, refl, sym, ap, ◌∙◌}
 use mathlib.Core.List.{List}

@@ -1,4 +1,5 @@
--- Document 01, "The session": "the decimator takes 127 lent taps in place of its sines, factor 0 to 64, and copies for 0 or 1 into an output of the input's length; otherwise output holds
+-- Document 01, "The session": "the decimator takes 127 lent taps in place of its sines, factor 0 to 64, and copies
+-- for 0 or 1 into an output of the input's length; otherwise output holds
 -- length/factor rounded up." Each value is the Rust's sum, from +0, tap by tap. Definitions only: assumes nothing.
 use Rattle.std.specs.Prelude.{◌≡◌, cond, ◌&&◌, ◌||◌, List, ℕ, zero, suc, ◌+◌, ◌-◌, ◌*◌, ◌/◌, ◌%◌, eqb, leb, ltb, length, get_or, Float}
 use Rattle.std.specs.Float.{nan, binary64}

@@ -9,8 +9,10 @@ ghost use Rattle.refusal.specs.Refusal.{number_in};
 
 use refusal::Refusal;
 
+// The longest signal.
 const MOST: usize = 0x10_0000;
 
+// The taps reach 63 samples to either side of the one in the middle.
 const TAPS: usize = 127;
 
 // How many samples come out of n.
@@ -47,19 +49,18 @@ fn test(n: usize, taps: usize, factor: usize, room: usize) -> Result<(), Refusal
 }
 
 // Tap k on the sample it meets where tap 63 meets sample `at`; none past either end.
+#[tactic(auto, using(crate::proofs::Cases::ways))]
 fn weigh(x: &[f64], taps: &[f64], at: usize, k: usize, sum: f64) -> f64
     requires { (at < 0x10_0000) × (k < length taps.now) }
     ensures { result ≡ weighed x.now taps.now at k sum }
 {
-    let j = at + k;
-    if j < 63 {
+    let Some(i) = (at + k).checked_sub(63) else {
         return sum;
+    };
+    match x.get(i) {
+        Some(sample) => sum + taps[k] * *sample,
+        None => sum,
     }
-    let i = j - 63;
-    if i < x.len() {
-        return sum + taps[k] * x[i];
-    }
-    sum
 }
 
 // The sample that the taps make of the signal around sample `at`.

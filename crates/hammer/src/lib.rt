@@ -13,7 +13,7 @@ use power::{power, quarters_of};
 
 // The exponent is the file's word: halves, or 256 and quarters.
 #[repr(C)]
-#[derive(Clone, Copy)]
+#[derive(Clone, Copy, Default)]
 pub struct Hammer {
     pub stiffness: f64,
     pub exponent: u32,

@@ -164,11 +164,13 @@ key_place_first i x h =
 
 -- ---- strings
 
-pub strings_in_range_first : (strings : List LoopDesign) (m : ℕ) → m ≤ length strings → list_all string_in_range (take m strings) ≡ strings_in_range strings m
+pub strings_in_range_first : (strings : List LoopDesign) (m : ℕ) → m ≤ length strings
+    → list_all string_in_range (take m strings) ≡ strings_in_range strings m
 unfolding strings_in_range
 strings_in_range_first strings m h = all_first past_string string_in_range strings m h
 
-pub strings_unused_rest : (strings : List LoopDesign) (m : ℕ) → length strings ≡ 32 → list_all is_no_string (drop m strings) ≡ strings_unused strings m
+pub strings_unused_rest : (strings : List LoopDesign) (m : ℕ) → length strings ≡ 32
+    → list_all is_no_string (drop m strings) ≡ strings_unused strings m
 unfolding strings_unused
 strings_unused_rest strings m size = all_rest past_string is_no_string strings m ∙ rw size
 
@@ -183,7 +185,8 @@ cells_most s = by_tests (leb s.n 2000) (leb s.ap_count 66) refl refl
     by_tests true false p q = omega arith
     by_tests false b p q = omega arith
 
-pub cells_first : (strings : List LoopDesign) (n : ℕ) → n ≤ length strings → sum_by counted_cells (take n strings) ≡ sum_below n (λ j. counted_cells (string_at strings j))
+pub cells_first : (strings : List LoopDesign) (n : ℕ) → n ≤ length strings
+    → sum_by counted_cells (take n strings) ≡ sum_below n (λ j. counted_cells (string_at strings j))
 cells_first strings n h = sum_first past_string counted_cells strings n h
 
 pub part_most : (strings : List LoopDesign) (n : ℕ) → n ≤ length strings → n ≤ 32 → sum_by counted_cells (take n strings) ≤ 132384

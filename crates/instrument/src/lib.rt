@@ -1,4 +1,5 @@
-// The instrument's record. Refusal 7 on an instrument: the test of a handed-in record. "The session": S and W of a record.
+// The instrument's record. Refusal 7 on an instrument: the test of a handed-in record. "The session": S and W of a
+// record.
 #![tactic(auto)]
 
 ghost use Rattle.std.specs.Prelude.{◌≡◌, true, not, ◌*◌, ◌^◌, ◌≤◌, ◌<◌, eqb, length, sum_by, position};
@@ -14,7 +15,8 @@ use instrument_fields::{
     string_in_range,
 };
 
-// The keys in the file's order, and their strings, key after key: key k's stand after those of the keys before it. Places past the counts hold zeros.
+// The keys in the file's order, and their strings, key after key: key k's stand after those of the keys before it.
+// Places past the counts hold zeros. The record crosses to C as it is, so that its counts stand open beside arrays.
 #[repr(C)]
 #[derive(Clone, Copy)]
 pub struct Instrument {

@@ -7,6 +7,9 @@ use lib.Ieee.Bits.{of_bits-to_bits}
 use borrow.Author.Tests.{ne_eqb}
 use mathlib.Core.Bool.{Bool}
 use Prim.Native.Nat.{ℕ}
+use Rattle.hammer.specs.declared.Hammer.{Hammer}
+use Rattle.instrument_fields.specs.declared.Common.{Common}
+use Rattle.instrument_fields.specs.declared.Damper.{Damper}
 use Rattle.instrument_fields.specs.declared.KeyDesign.{KeyDesign}
 use Rattle.instrument_fields.specs.declared.LoopDesign.{LoopDesign}
 use Rattle.instrument_fields.specs.Unused.{is_plus_zero}
@@ -41,3 +44,19 @@ pub string_is : {n n' s s' : ℕ} {p p' t t' a a' g g' c c' : Float} → n ≡ n
     (record { n = n; ap_count = s; phi = p; thiran_a = t; ap_a = a; loss_g = g; loss_c = c })
     (record { n = n'; ap_count = s'; phi = p'; thiran_a = t'; ap_a = a'; loss_g = g'; loss_c = c' })
 string_is e1 e2 e3 e4 e5 e6 e7 = rw (e1, e2, e3, e4, e5, e6, e7)
+
+pub hammer_is : {x x' : ℕ} {s s' e e' m m' t t' : Float} → s ≡ s' → x ≡ x' → e ≡ e' → m ≡ m' → t ≡ t'
+    → ◌≡◌ {A = Hammer}
+    (record { stiffness = s; exponent = x; eps = e; mass = m; tau = t })
+    (record { stiffness = s'; exponent = x'; eps = e'; mass = m'; tau = t' })
+hammer_is e1 e2 e3 e4 e5 = rw (e1, e2, e3, e4, e5)
+
+pub damper_is : {r r' s s' : Float} → r ≡ r' → s ≡ s'
+    → ◌≡◌ {A = Damper} (record { rho = r; ramp_s = s }) (record { rho = r'; ramp_s = s' })
+damper_is e1 e2 = rw (e1, e2)
+
+pub common_is : {f f' z z' y y' : Float} {h h' : Hammer} {d d' : Damper} → f ≡ f' → z ≡ z' → h ≡ h' → y ≡ y' → d ≡ d'
+    → ◌≡◌ {A = Common}
+    (record { fs = f; z = z; hammer = h; yz = y; damper = d })
+    (record { fs = f'; z = z'; hammer = h'; yz = y'; damper = d' })
+common_is e1 e2 e3 e4 e5 = rw (e1, e2, e3, e4, e5)

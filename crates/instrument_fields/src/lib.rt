@@ -5,20 +5,20 @@
 ghost use Rattle.std.specs.Prelude.{◌≡◌};
 ghost use Rattle.instrument_fields.specs.Fields.{hammer_of, common_of, key_of, loop_of};
 ghost use Rattle.instrument_fields.specs.Ranges.{within, strictly_between, exponent_in_range, hammer_in_range, common_in_range, key_in_range, string_in_range};
-ghost use Rattle.instrument_fields.specs.Unused.{is_plus_zero, no_hammer, no_common, no_key, no_string, is_no_key, is_no_string};
+ghost use Rattle.instrument_fields.specs.Unused.{is_plus_zero, no_common, no_key, no_string, is_no_key, is_no_string};
 
 use hammer::Hammer;
 use little_endian::{byte_at, f64_at, u16_at, u32_at};
 
 #[repr(C)]
-#[derive(Clone, Copy)]
+#[derive(Clone, Copy, Default)]
 pub struct Damper {
     pub rho: f64,
     pub ramp_s: f64,
 }
 
 #[repr(C)]
-#[derive(Clone, Copy)]
+#[derive(Clone, Copy, Default)]
 pub struct Common {
     pub fs: f64,
     pub z: f64,
@@ -230,32 +230,9 @@ pub fn no_string() -> LoopDesign
     LoopDesign::default()
 }
 
-fn no_hammer() -> Hammer
-    ensures { result ≡ no_hammer }
-{
-    Hammer {
-        stiffness: 0.0,
-        exponent: 0,
-        eps: 0.0,
-        mass: 0.0,
-        tau: 0.0,
-    }
-}
-
 // The common record of a file that is refused.
 pub fn no_common() -> Common
     ensures { result ≡ no_common }
 {
-    let hammer = no_hammer();
-    let damper = Damper {
-        rho: 0.0,
-        ramp_s: 0.0,
-    };
-    Common {
-        fs: 0.0,
-        z: 0.0,
-        hammer,
-        yz: 0.0,
-        damper,
-    }
+    Common::default()
 }

@@ -49,7 +49,8 @@ module _ {A : Type 0} {g : ℕ → A} {out₀ : List A} where
         sym (take_all i out (omega (arith, s.same))) ∙ s.done ∙ ap (λ (n : ℕ). tabulate n g) e
 
 -- places filled from the front, and zeros behind them
-pub front_filled : {A : Type 0} (g : ℕ → A) (z y : A) (N n m : ℕ) (xs : List A) → xs ≡ tabulate m g → m ≡ n → y ≡ z → xs ++ drop n (replicate N y) ≡ pad N z (tabulate n g)
+pub front_filled : {A : Type 0} (g : ℕ → A) (z y : A) (N n m : ℕ) (xs : List A)
+    → xs ≡ tabulate m g → m ≡ n → y ≡ z → xs ++ drop n (replicate N y) ≡ pad N z (tabulate n g)
 unfolding pad
 front_filled g z y N n m xs filled e same =
     rw (filled, e, same, length_tabulate n g) (ap (λ (l : List _). tabulate n g ++ l) (drop-replicate n N z))
@@ -64,7 +65,8 @@ pub record StringsFilled (f : List ℕ) (n : ℕ) (keys : List KeyDesign) (out :
   pub strings : out ≡ pad 32 no_string (strings_in f i)
 
 module _ {f : List ℕ} {n : ℕ} {keys : List KeyDesign} where
-  pub strings_none : {s : LoopDesign} → keys ≡ pad 16 no_key (keys_in f n) → string_sum keys n ≤ 32 → s ≡ no_string → StringsFilled f n keys (replicate 32 s) 0 0
+  pub strings_none : {s : LoopDesign} → keys ≡ pad 16 no_key (keys_in f n) → string_sum keys n ≤ 32 → s ≡ no_string
+      → StringsFilled f n keys (replicate 32 s) 0 0
   unfolding strings_in gather pad
   strings_none is few e = record { keys_are = is; few = few; below = omega arith; count = sym (string_sum_none keys); strings = ap (replicate 32) e }
 
@@ -73,11 +75,13 @@ module _ {f : List ℕ} {n : ℕ} {keys : List KeyDesign} where
     pub strings_room : i < n → m + (key_at keys i).strings ≤ 32
     strings_room h = let w = string_sum_within keys n i h in let few = s.few in let e = s.count in omega arith
 
-    pub strings_next : {b : List ℕ} {r : List LoopDesign} → i < n → b ≡ key_section f i → r ≡ sets out m (tabulate (key_at keys i).strings (loop_in b))
+    pub strings_next : {b : List ℕ} {r : List LoopDesign} → i < n → b ≡ key_section f i
+        → r ≡ sets out m (tabulate (key_at keys i).strings (loop_in b))
         → StringsFilled f n keys r (m + (key_at keys i).strings) (i + 1)
     unfolding strings_in
     strings_next h eb er =
-        let runs : (key_at keys i).strings ≡ byte_at (key_section f i) 2 = ap (λ (l : List KeyDesign). (key_at l i).strings) s.keys_are ∙ count_in_lem f n i h in
+        let runs : (key_at keys i).strings ≡ byte_at (key_section f i) 2 =
+        ap (λ (l : List KeyDesign). (key_at l i).strings) s.keys_are ∙ count_in_lem f n i h in
         let total : m ≡ length (gather i (run_in f)) =
         s.count ∙ ap (λ (l : List KeyDesign). string_sum l i) s.keys_are ∙ sum_in f n i (omega arith) ∙ sym (strings_length f i) in
         let room = strings_room h in
@@ -92,14 +96,17 @@ module _ {f : List ℕ} {n : ℕ} {keys : List KeyDesign} where
         }
 
     -- the same, as the call on those places leaves them
-    pub strings_turn : {b : List ℕ} {new : List LoopDesign} {c k q : ℕ} → i < n → length out ≡ 32 → c ≡ (key_at keys i).strings → k ≡ c → q ≡ c
+    pub strings_turn : {b : List ℕ} {new : List LoopDesign} {c k q : ℕ} → i < n → length out ≡ 32
+        → c ≡ (key_at keys i).strings → k ≡ c → q ≡ c
         → b ≡ key_section f i → new ≡ tabulate q (loop_in b) → StringsFilled f n keys (put_mid m k out new) (m + c) (i + 1)
     strings_turn {b} {new} {c} {k} {q} h size ec ek eq eb en =
         let room = strings_room h in
         let filled : new ≡ tabulate (key_at keys i).strings (loop_in b) = en ∙ ap (λ (x : ℕ). tabulate x (loop_in b)) (eq ∙ ec) in
         let long : length new ≡ c = ap (λ (l : List LoopDesign). length l) en ∙ length_tabulate q (loop_in b) ∙ eq in
         let put : put_mid m k out new ≡ sets out m new =
-        rw (ek, ← long) (ap (λ (l : List LoopDesign). take m out ++ (new ++ l)) (drop-drop (length new) m out) ∙ sym (append_assoc (take m out) new (drop (m + length new) out)) ∙ sym (sets-eq new out m (omega (arith, long, ec, room, size)))) in
+        rw (ek, ← long) (ap (λ (l : List LoopDesign). take m out ++ (new ++ l)) (drop-drop (length new) m out)
+        ∙ sym (append_assoc (take m out) new (drop (m + length new) out))
+        ∙ sym (sets-eq new out m (omega (arith, long, ec, room, size)))) in
         rw ec (strings_next h eb (put ∙ ap (sets out m) filled))
 
     pub strings_all : n ≤ i → out ≡ pad 32 no_string (strings_in f n)

@@ -1,4 +1,5 @@
--- Document 01, "Instrument file": the record that a file gives, or the first of the refusals 1 to 6 that the whole file meets. Definitions only: assumes nothing.
+-- Document 01, "Instrument file": the record that a file gives, or the first of the refusals 1 to 6 that the whole
+-- file meets. Definitions only: assumes nothing.
 use Rattle.std.specs.Prelude.{ℕ, ◌+◌, ◌-◌, ◌*◌, List, [], ◌∷◌, Bool, not, cond, leb, ltb, eqb, length, take, drop, Result, Ok, Err}
 use Rattle.little_endian.specs.Numbers.{byte_at, u32_at}
 use Rattle.instrument_fields.specs.declared.KeyDesign.{KeyDesign}
@@ -32,7 +33,8 @@ key_section f k = section f (k + 1)
 unfoldable pub headed : List ℕ → Bool
 headed f = every (leb 4 (length f) ∷ leb 2 (u32_at f 0) ∷ leb (u32_at f 0) 17 ∷ leb (4 + 8 * u32_at f 0) (length f) ∷ [])
 
--- not 2: "The first offset is 4 + 8D, each next is the previous offset plus length, the last end is the file's end." D is n + 1, for n keys; the sums are whole numbers and do not wrap
+-- not 2: "The first offset is 4 + 8D, each next is the previous offset plus length, the last end is the
+-- file's end." D is n + 1, for n keys; the sums are whole numbers and do not wrap
 unfoldable pub linked : List ℕ → ℕ → Bool
 linked f i = eqb (offset_of f (i + 1)) (offset_of f i + length_of f i)
 
@@ -52,7 +54,8 @@ loop_in b j = loop_of (take 44 (drop (36 + 44 * j) b))
 
 -- not 4: "Another field is out of range, NaN or infinite, or the zero byte isn't 0."
 unfoldable pub fielded_key : List ℕ → Bool
-fielded_key b = every (leb (byte_at b 1) 1 ∷ eqb (byte_at b 3) 0 ∷ key_in_range (key_of b) ∷ all_below (byte_at b 2) (λ j. string_in_range (loop_in b j)) ∷ [])
+fielded_key b =
+    every (leb (byte_at b 1) 1 ∷ eqb (byte_at b 3) 0 ∷ key_in_range (key_of b) ∷ all_below (byte_at b 2) (λ j. string_in_range (loop_in b j)) ∷ [])
 
 unfoldable pub fielded : List ℕ → ℕ → Bool
 fielded f n = every (common_in_range (common_of (section f 0)) ∷ all_below n (λ k. fielded_key (key_section f k)) ∷ [])

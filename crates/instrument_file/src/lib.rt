@@ -9,7 +9,8 @@ ghost use Rattle.little_endian.specs.Numbers.{u32_at};
 ghost use Rattle.instrument_fields.specs.Ranges.{string_in_range};
 ghost use Rattle.instrument_fields.specs.Unused.{no_key, no_string};
 ghost use Rattle.instrument.specs.Valid.{string_sum};
-ghost use Rattle.instrument_file.specs.File.{offset_of, length_of, section, key_section, headed, linked, chained, measured_key, measured, loop_in, fielded_key, fielded, keys_in, strings_in, instrument_of, read_of};
+ghost use Rattle.instrument_file.specs.File.{offset_of, length_of, section, key_section, headed, linked, chained, measured_key, measured};
+ghost use Rattle.instrument_file.specs.File.{loop_in, fielded_key, fielded, keys_in, strings_in, instrument_of, read_of};
 
 use instrument::{Instrument, keys_apart, string_sum};
 use instrument_fields::{
@@ -19,32 +20,7 @@ use instrument_fields::{
 use little_endian::{byte_at, part, u32_at};
 use refusal::Refusal;
 
-// ---- the table and the sections
-
-fn section_offset(f: &[u8], i: usize) -> usize
-    requires { i ≤ 16 }
-    ensures { (result ≡ offset_of f.now i) × (result < 0x1_0000_0000) }
-{
-    u32_at(f, 4 + 8 * i) as usize
-}
-
-fn section_length(f: &[u8], i: usize) -> usize
-    requires { i ≤ 16 }
-    ensures { (result ≡ length_of f.now i) × (result < 0x1_0000_0000) }
-{
-    u32_at(f, 8 + 8 * i) as usize
-}
-
-fn section_at(f: &[u8], i: usize) -> &[u8]
-    requires { i ≤ 16 }
-    ensures { result.now ≡ section f.now i }
-{
-    let start = section_offset(f, i);
-    let count = section_length(f, i);
-    part(f, start, count)
-}
-
-// ---- refusals 1 and 2
+// ---- refusal 1
 
 fn is_headed(f: &[u8]) -> bool
     ensures { result ≡ headed f.now }
@@ -61,30 +37,7 @@ fn key_count(f: &[u8]) -> usize
     u32_at(f, 0) as usize - 1
 }
 
-fn is_linked(f: &[u8], i: usize) -> bool
-    requires { i < 16 }
-    ensures { result ≡ linked f.now i }
-{
-    section_offset(f, i + 1) == section_offset(f, i) + section_length(f, i)
-}
-
-fn all_linked(f: &[u8], n: usize) -> bool
-    requires { n ≤ 16 }
-    ensures { result ≡ list_all (linked f.now) (range_with_len 0 n) }
-{
-    (0..n).all(|i| is_linked(f, i))
-}
-
-fn is_chained(f: &[u8], n: usize) -> bool
-    requires { n ≤ 16 }
-    ensures { result ≡ chained f.now n }
-{
-    (section_offset(f, 0) == 4 + 8 * (n + 1))
-        & all_linked(f, n)
-        & (section_offset(f, n) + section_length(f, n) == f.len())
-}
-
-// ---- refusal 3
+// ---- a key's section
 
 fn is_measured_key(b: &[u8]) -> bool
     ensures { result ≡ measured_key b.now }
@@ -92,23 +45,6 @@ fn is_measured_key(b: &[u8]) -> bool
     let s = usize::from(byte_at(b, 2));
     (1 <= s) & (s <= 3) & (b.len() == 36 + 44 * s)
 }
-
-fn keys_measured(f: &[u8], n: usize) -> bool
-    requires { n ≤ 16 }
-    ensures { result ≡ list_all (λ k. measured_key (key_section f.now k)) (range_with_len 0 n) }
-{
-    (0..n).all(|k| is_measured_key(section_at(f, k + 1)))
-}
-
-fn is_measured(f: &[u8], n: usize) -> bool
-    requires { n ≤ 16 }
-    ensures { result ≡ measured f.now n }
-{
-    let common = section_at(f, 0);
-    (common.len() == 76) & keys_measured(f, n)
-}
-
-// ---- refusal 4
 
 fn loop_in(b: &[u8], j: usize) -> LoopDesign
     requires { j < 256 }
@@ -131,41 +67,6 @@ fn is_fielded_key(b: &[u8]) -> bool
     (byte_at(b, 1) <= 1) & (byte_at(b, 3) == 0) & key_in_range(read_key(b)) & strings_fielded(b, s)
 }
 
-fn keys_fielded(f: &[u8], n: usize) -> bool
-    requires { n ≤ 16 }
-    ensures { result ≡ list_all (λ k. fielded_key (key_section f.now k)) (range_with_len 0 n) }
-{
-    (0..n).all(|k| is_fielded_key(section_at(f, k + 1)))
-}
-
-fn is_fielded(f: &[u8], n: usize) -> bool
-    requires { n ≤ 16 }
-    ensures { result ≡ fielded f.now n }
-{
-    common_in_range(read_common(section_at(f, 0))) & keys_fielded(f, n)
-}
-
-// ---- the record's keys and strings
-
-// As many keys as `out` has places.
-fn read_keys(f: &[u8], out: &mut [KeyDesign])
-    requires { length out.old ≤ 16 }
-    ensures { out.new ≡ tabulate (length out.old) (λ k. key_of (key_section f.now k)) }
-{
-    for (k, key) in out.iter_mut().enumerate() {
-        *key = read_key(section_at(f, k + 1));
-    }
-}
-
-fn keys_of(f: &[u8], n: usize) -> [KeyDesign; 16]
-    requires { n ≤ 16 }
-    ensures { result ≡ pad 16 no_key (keys_in f.now n) }
-{
-    let mut out = [no_key(); 16];
-    read_keys(f, &mut out[..n]);
-    out
-}
-
 // As many strings of a key's section as `out` has places.
 fn read_strings(b: &[u8], out: &mut [LoopDesign])
     requires { length out.old < 256 }
@@ -176,37 +77,142 @@ fn read_strings(b: &[u8], out: &mut [LoopDesign])
     }
 }
 
-fn strings_of(f: &[u8], n: usize, keys: [KeyDesign; 16]) -> [LoopDesign; 32]
-    requires { (n ≤ 16) × (keys ≡ pad 16 no_key (keys_in f.now n)) × (string_sum keys n ≤ 32) }
-    ensures { result ≡ pad 32 no_string (strings_in f.now n) }
-{
-    let mut out = [no_string(); 32];
-    let mut m = 0;
-    let used = &keys[..n];
-    for (k, key) in used.iter().enumerate() {
-        let end = m + key.strings;
-        read_strings(section_at(f, k + 1), &mut out[m..end]);
-        m = end;
+// ---- the sections
+
+// A file of so many keys: every section but the first is one.
+#[derive(Clone, Copy)]
+struct Sections<'a> {
+    file: &'a [u8],
+    keys: usize,
+    ghost few: { keys ≤ 16 },
+}
+
+impl<'a> Sections<'a> {
+    // Offset and length of section i, as the table has them.
+    fn pair(self, i: usize) -> (usize, usize)
+        requires { i ≤ self.keys }
+        ensures { (result.0 ≡ offset_of self.entry.file.now i) × (result.1 ≡ length_of self.entry.file.now i)
+            × (result.0 < 0x1_0000_0000) × (result.1 < 0x1_0000_0000) }
+    {
+        let offset = u32_at(self.file, 4 + 8 * i);
+        let length = u32_at(self.file, 8 + 8 * i);
+        (offset as usize, length as usize)
     }
-    out
+
+    fn section(self, i: usize) -> &'a [u8]
+        requires { i ≤ self.keys }
+        ensures { result.now ≡ section self.entry.file.now i }
+    {
+        let (offset, length) = self.pair(i);
+        part(self.file, offset, length)
+    }
+
+    // ---- refusal 2
+
+    fn is_linked(self, i: usize) -> bool
+        requires { i < self.keys }
+        ensures { result ≡ linked self.entry.file.now i }
+    {
+        let (offset, length) = self.pair(i);
+        let (next, _) = self.pair(i + 1);
+        next == offset + length
+    }
+
+    fn all_linked(self) -> bool
+        ensures { result ≡ list_all (linked self.entry.file.now) (range_with_len 0 self.entry.keys) }
+    {
+        (0..self.keys).all(|i| self.is_linked(i))
+    }
+
+    fn is_chained(self) -> bool
+        ensures { result ≡ chained self.entry.file.now self.entry.keys }
+    {
+        let (first, _) = self.pair(0);
+        let (last, length) = self.pair(self.keys);
+        (first == 4 + 8 * (self.keys + 1)) & self.all_linked() & (last + length == self.file.len())
+    }
+
+    // ---- refusal 3
+
+    fn keys_measured(self) -> bool
+        ensures { result ≡ list_all (λ k. measured_key (key_section self.entry.file.now k)) (range_with_len 0 self.entry.keys) }
+    {
+        (0..self.keys).all(|k| is_measured_key(self.section(k + 1)))
+    }
+
+    fn is_measured(self) -> bool
+        ensures { result ≡ measured self.entry.file.now self.entry.keys }
+    {
+        let common = self.section(0);
+        (common.len() == 76) & self.keys_measured()
+    }
+
+    // ---- refusal 4
+
+    fn keys_fielded(self) -> bool
+        ensures { result ≡ list_all (λ k. fielded_key (key_section self.entry.file.now k)) (range_with_len 0 self.entry.keys) }
+    {
+        (0..self.keys).all(|k| is_fielded_key(self.section(k + 1)))
+    }
+
+    fn is_fielded(self) -> bool
+        ensures { result ≡ fielded self.entry.file.now self.entry.keys }
+    {
+        common_in_range(read_common(self.section(0))) & self.keys_fielded()
+    }
+
+    // ---- the record's keys and strings
+
+    // As many keys as `out` has places.
+    fn read_keys(self, out: &mut [KeyDesign])
+        requires { length out.old ≤ self.keys }
+        ensures { out.new ≡ tabulate (length out.old) (λ k. key_of (key_section self.entry.file.now k)) }
+    {
+        for (k, key) in out.iter_mut().enumerate() {
+            *key = read_key(self.section(k + 1));
+        }
+    }
+
+    fn keys_of(self) -> [KeyDesign; 16]
+        ensures { result ≡ pad 16 no_key (keys_in self.entry.file.now self.entry.keys) }
+    {
+        let mut out = [no_key(); 16];
+        self.read_keys(&mut out[..self.keys]);
+        out
+    }
+
+    fn strings_of(self, keys: [KeyDesign; 16]) -> [LoopDesign; 32]
+        requires { (keys ≡ pad 16 no_key (keys_in self.file.now self.keys)) × (string_sum keys self.keys ≤ 32) }
+        ensures { result ≡ pad 32 no_string (strings_in self.entry.file.now self.entry.keys) }
+    {
+        let mut out = [no_string(); 32];
+        let mut m = 0;
+        let used = &keys[..self.keys];
+        for (k, key) in used.iter().enumerate() {
+            let end = m + key.strings;
+            read_strings(self.section(k + 1), &mut out[m..end]);
+            m = end;
+        }
+        out
+    }
+
+    fn instrument_of(self, m: usize, keys: [KeyDesign; 16]) -> Instrument
+        requires { (keys ≡ pad 16 no_key (keys_in self.file.now self.keys)) × (m ≡ string_sum keys self.keys) × (m ≤ 32) }
+        ensures { result ≡ instrument_of self.entry.file.now self.entry.keys }
+    {
+        let common = read_common(self.section(0));
+        let strings = self.strings_of(keys);
+        Instrument {
+            common,
+            key_count: self.keys,
+            string_count: m,
+            keys,
+            strings,
+        }
+    }
 }
 
 // ---- reading
-
-fn instrument_of(f: &[u8], n: usize, m: usize, keys: [KeyDesign; 16]) -> Instrument
-    requires { (n ≤ 16) × (keys ≡ pad 16 no_key (keys_in f.now n)) × (m ≡ string_sum keys n) × (m ≤ 32) }
-    ensures { result ≡ instrument_of f.now n }
-{
-    let common = read_common(section_at(f, 0));
-    let strings = strings_of(f, n, keys);
-    Instrument {
-        common,
-        key_count: n,
-        string_count: m,
-        keys,
-        strings,
-    }
-}
 
 // The instrument of a file, or the first refusal of 1 to 6 that the whole file meets.
 pub fn read(f: &[u8]) -> Result<Instrument, Refusal>
@@ -216,16 +222,17 @@ pub fn read(f: &[u8]) -> Result<Instrument, Refusal>
         return Err(Refusal::SectionCount);
     }
     let n = key_count(f);
-    if !is_chained(f, n) {
+    let sections = Sections { file: f, keys: n };
+    if !sections.is_chained() {
         return Err(Refusal::Chain);
     }
-    if !is_measured(f, n) {
+    if !sections.is_measured() {
         return Err(Refusal::SectionLength);
     }
-    if !is_fielded(f, n) {
+    if !sections.is_fielded() {
         return Err(Refusal::Field);
     }
-    let keys = keys_of(f, n);
+    let keys = sections.keys_of();
     let m = string_sum(&keys[..n]);
     if m > 32 {
         return Err(Refusal::ManyStrings);
@@ -233,5 +240,5 @@ pub fn read(f: &[u8]) -> Result<Instrument, Refusal>
     if !keys_apart(&keys[..n]) {
         return Err(Refusal::KeyTwice);
     }
-    Ok(instrument_of(f, n, m, keys))
+    Ok(sections.instrument_of(m, keys))
 }

@@ -167,7 +167,8 @@ module _ (i : Instrument) where
         ∙ ap (λ (x : ℕ). sets l₁ (12 + 8 * k) (le32 (section_start (n + 1) S (suc k)) ++ le32 x)) (sym (section_length i k)))
 
     -- the number of sections, the common section's pair and the keys'
-    pub table_stored : (l₃ : List ℕ) → l₁ ≡ sets l 0 (le32 (n + 1)) → l₂ ≡ sets l₁ 4 (le32 (12 + 8 * n) ++ le32 76) → l₃ ≡ sets l₂ 12 (gather n P) → l₃ ≡ sets l 0 (table_bytes i)
+    pub table_stored : (l₃ : List ℕ) → l₁ ≡ sets l 0 (le32 (n + 1)) → l₂ ≡ sets l₁ 4 (le32 (12 + 8 * n) ++ le32 76)
+        → l₃ ≡ sets l₂ 12 (gather n P) → l₃ ≡ sets l 0 (table_bytes i)
     unfolding table_bytes
     table_stored l₃ e₁ e₂ e₃ =
         stored_then l l₁ l₃ (le32 (n + 1)) (gather (n + 1) (pair_bytes i)) 0 4 4 (length_le32 (n + 1)) refl e₁

@@ -23,7 +23,8 @@ abbrev pub four : Float → Float → Float → Float → List ℕ
 four x y z w = le_f64 x ++ (le_f64 y ++ (le_f64 z ++ le_f64 w))
 
 module _ (l l₁ l₂ l₃ l₄ : List ℕ) (p : ℕ) where
-  pub four_stored : (x y z w : Float) → l₁ ≡ sets l p (le_f64 x) → l₂ ≡ sets l₁ (p + 8) (le_f64 y) → l₃ ≡ sets l₂ (p + 16) (le_f64 z) → l₄ ≡ sets l₃ (p + 24) (le_f64 w) → l₄ ≡ sets l p (four x y z w)
+  pub four_stored : (x y z w : Float) → l₁ ≡ sets l p (le_f64 x) → l₂ ≡ sets l₁ (p + 8) (le_f64 y)
+      → l₃ ≡ sets l₂ (p + 16) (le_f64 z) → l₄ ≡ sets l₃ (p + 24) (le_f64 w) → l₄ ≡ sets l p (four x y z w)
   four_stored x y z w e₁ e₂ e₃ e₄ =
       float_then l l₁ l₄ (le_f64 y ++ (le_f64 z ++ le_f64 w)) p (p + 8) x refl e₁
       (float_then l₁ l₂ l₄ (le_f64 z ++ le_f64 w) (p + 8) (p + 16) y (omega arith) e₂
@@ -42,7 +43,8 @@ module _ (l l₁ l₂ l₃ l₄ : List ℕ) (p : ℕ) where
       (float_then l₂ l₃ l₄ exponent (p + 64) (p + 72) c.damper.ramp_s (omega arith) e₃ e₄))
 
   -- n and ap_count as the low 16 bits that are stored
-  pub string_stored : (s : LoopDesign) (n count : ℕ) → le16 n ≡ le16 s.n → le16 count ≡ le16 s.ap_count → l₁ ≡ sets l p (le16 n) → l₂ ≡ sets l₁ (p + 2) (le16 count)
+  pub string_stored : (s : LoopDesign) (n count : ℕ) → le16 n ≡ le16 s.n → le16 count ≡ le16 s.ap_count
+      → l₁ ≡ sets l p (le16 n) → l₂ ≡ sets l₁ (p + 2) (le16 count)
       → l₃ ≡ sets l₂ (p + 4) (four s.phi s.thiran_a s.ap_a s.loss_g) → l₄ ≡ sets l₃ (p + 36) (le_f64 s.loss_c) → l₄ ≡ sets l p (string_bytes s)
   unfolding string_bytes
   string_stored s n count en ec e₁ e₂ e₃ e₄ =
@@ -52,7 +54,8 @@ module _ (l l₁ l₂ l₃ l₄ : List ℕ) (p : ℕ) where
       (half_then l₁ l₂ l₄ floats (p + 2) (p + 4) s.ap_count (omega arith) (e₂ ∙ ap (sets l₁ (p + 2)) ec)
       (four_then l₂ l₃ l₄ corner (p + 4) (p + 36) s.phi s.thiran_a s.ap_a s.loss_g (omega arith) e₃ e₄))
 
-  pub head_stored : (l₅ : List ℕ) (k : KeyDesign) (flag : ℕ) → flag ≡ cond k.has_damper 1 0 → l₁ ≡ set l p k.key → l₂ ≡ set l₁ (p + 1) flag → l₃ ≡ set l₂ (p + 2) k.strings
+  pub head_stored : (l₅ : List ℕ) (k : KeyDesign) (flag : ℕ) → flag ≡ cond k.has_damper 1 0 → l₁ ≡ set l p k.key
+      → l₂ ≡ set l₁ (p + 1) flag → l₃ ≡ set l₂ (p + 2) k.strings
       → l₄ ≡ set l₃ (p + 3) 0 → l₅ ≡ sets l₄ (p + 4) (four k.weight k.damper_scale k.strike_ratio k.damper_ratio) → l₅ ≡ sets l p (head_bytes k)
   unfolding head_bytes four_bytes
   head_stored l₅ k flag e e₁ e₂ e₃ e₄ e₅ =
@@ -63,7 +66,8 @@ pub flag_is : (b : Bool) → from_bool b ≡ cond b 1 0
 flag_is true = refl
 flag_is false = refl
 
-pub key_stored : (l l₁ l₂ : List ℕ) (p : ℕ) (k : KeyDesign) (s : ℕ → LoopDesign) → l₁ ≡ sets l p (head_bytes k) → l₂ ≡ sets l₁ (p + 36) (gather k.strings (λ j. string_bytes (s j)))
+pub key_stored : (l l₁ l₂ : List ℕ) (p : ℕ) (k : KeyDesign) (s : ℕ → LoopDesign) → l₁ ≡ sets l p (head_bytes k)
+    → l₂ ≡ sets l₁ (p + 36) (gather k.strings (λ j. string_bytes (s j)))
     → l₂ ≡ sets l p (key_bytes k s)
 unfolding key_bytes
 key_stored l l₁ l₂ p k s = stored_then l l₁ l₂ (head_bytes k) (gather k.strings (λ j. string_bytes (s j))) p 36 (p + 36) (head_length k) refl

@@ -1,4 +1,5 @@
--- What stores leave, piece behind piece: numbers, the four bytes of a key, the lists of a gathering. Each is `stored_then` with the piece's length. Assumes nothing.
+-- What stores leave, piece behind piece: numbers, the four bytes of a key, the lists of a gathering. Each is
+-- `stored_then` with the piece's length. Assumes nothing.
 use mathlib.Core.Path.{◌≡◌, refl, sym, ap, ◌∙◌}
 use mathlib.Core.List.{List, ◌∷◌, ◌++◌, append_assoc}
 use Prim.Native.Nat.{ℕ, suc, ◌+◌, ◌*◌, ◌%◌, ◌/◌}
@@ -49,7 +50,8 @@ module _ (l l₁ l₂ ys : List ℕ) (a b : ℕ) where
       ∙ ap (λ (r : List ℕ). sets l a (le_f64 x ++ (le_f64 y ++ r))) (append_assoc (le_f64 z) (le_f64 w) ys)
 
 -- four bytes, and what is stored behind them
-pub bytes_then : (l l₁ l₂ l₃ l₄ l₅ ys : List ℕ) (a x y z w : ℕ) → l₁ ≡ set l a x → l₂ ≡ set l₁ (a + 1) y → l₃ ≡ set l₂ (a + 2) z → l₄ ≡ set l₃ (a + 3) w → l₅ ≡ sets l₄ (a + 4) ys
+pub bytes_then : (l l₁ l₂ l₃ l₄ l₅ ys : List ℕ) (a x y z w : ℕ) → l₁ ≡ set l a x → l₂ ≡ set l₁ (a + 1) y
+    → l₃ ≡ set l₂ (a + 2) z → l₄ ≡ set l₃ (a + 3) w → l₅ ≡ sets l₄ (a + 4) ys
     → l₅ ≡ sets l a (x ∷ y ∷ z ∷ w ∷ ys)
 bytes_then l l₁ l₂ l₃ l₄ l₅ ys a x y z w e₁ e₂ e₃ e₄ e₅ =
     let n₁ : a + 1 ≡ suc a = omega arith in
@@ -59,6 +61,7 @@ bytes_then l l₁ l₂ l₃ l₄ l₅ ys a x y z w e₁ e₂ e₃ e₄ e₅ =
     rw (e₅, e₄, e₃, e₂, e₁, n₁, n₂, n₃, n₄)
 
 -- list k behind the k before it
-pub gathered_next : (l l₁ l₂ : List ℕ) (G : ℕ → List ℕ) (k n a b : ℕ) → length (gather k G) ≡ n → b ≡ a + n → l₁ ≡ sets l a (gather k G) → l₂ ≡ sets l₁ b (G k)
+pub gathered_next : (l l₁ l₂ : List ℕ) (G : ℕ → List ℕ) (k n a b : ℕ) → length (gather k G) ≡ n → b ≡ a + n
+    → l₁ ≡ sets l a (gather k G) → l₂ ≡ sets l₁ b (G k)
     → l₂ ≡ sets l a (gather (k + 1) G)
 gathered_next l l₁ l₂ G k n a b size at e g = stored_then l l₁ l₂ (gather k G) (G k) a n b size at e g ∙ ap (sets l a) (sym (gather_more k G))

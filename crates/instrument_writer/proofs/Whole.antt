@@ -17,7 +17,7 @@ use Rattle.instrument_file.specs.File.{read_of}
 use Rattle.instrument_encoding.specs.Encode.{section_bytes, encode}
 use Rattle.instrument_encoding.proofs.Rewritten.{read_encode}
 use Rattle.instrument_encoding.specs.Files.{GivenTest}
-use Rattle.instrument_writer.specs.Pieces.{table_bytes, table_sections}
+use Rattle.instrument_writer.specs.Pieces.{table_bytes, table_sections, counted_length, length_counted}
 use Rattle.std.specs.Prelude.{Ok, Err}
 use Rattle.refusal.specs.declared.Refusal.TheVariants.{Record, FileRoom}
 use Rattle.instrument_writer.specs.Write.{write_refusal, wrote, WriteMeets}
@@ -28,7 +28,8 @@ module _ (i : Instrument) where
   n = i.key_count
 
   -- the table, and the sections behind it
-  pub file_stored : (l l₁ l₂ : List ℕ) → l₁ ≡ sets l 0 (table_bytes i) → l₂ ≡ sets l₁ (12 + 8 * n) (gather (n + 1) (section_bytes i)) → l₂ ≡ sets l 0 (encode i)
+  pub file_stored : (l l₁ l₂ : List ℕ) → l₁ ≡ sets l 0 (table_bytes i)
+      → l₂ ≡ sets l₁ (12 + 8 * n) (gather (n + 1) (section_bytes i)) → l₂ ≡ sets l 0 (encode i)
   file_stored l l₁ l₂ e g =
       let size = 12 + 8 * n in
       stored_then l l₁ l₂ (table_bytes i) (gather (n + 1) (section_bytes i)) 0 size size (table_length i) (sym (zero-add size)) e g ∙ ap (sets l 0) (table_sections i)
@@ -42,8 +43,14 @@ module _ (i : Instrument) where
     pub call_wrong : given ≡ false → WriteMeets i bytes (Err Record) bytes
     call_wrong h = meets_refused 7 (wrong_is h) (λ z. omega arith) (refl, refl)
 
-    -- and found the file's length
-    module _ (v : valid i ≡ true) (len : ℕ) (size : len ≡ length (encode i)) where
+    -- that it is one, and counted the file's length
+    module _ (is : given ≡ true) (len : ℕ) (count : len ≡ counted_length i.key_count i.string_count) where
+      v : valid i ≡ true
+      v = sym test.answer ∙ is
+
+      size : len ≡ length (encode i)
+      size = count ∙ length_counted i v
+
       short_is : length bytes < len → 20 ≡ write_refusal i (length bytes)
       unfolding write_refusal
       short_is h = rw (v, lt-ltb (length bytes) (length (encode i)) (omega (arith, size)))
@@ -58,7 +65,7 @@ module _ (i : Instrument) where
       pub call_writes : len ≤ length bytes → (bytes' : List ℕ) → bytes' ≡ sets bytes 0 (encode i) → WriteMeets i bytes (Ok len) bytes'
       call_writes h bytes' e =
           let f = encode i in
-          let by = test.every (test.answer ∙ v) in
+          let by = test.every is in
           let same = read_encode by.file by.bytes i by.reads in
           let file : bytes' ≡ f ++ drop (length f) bytes =
           e ∙ sets-eq f bytes 0 (omega (arith, size)) ∙ ap (λ (k : ℕ). f ++ drop k bytes) (zero-add (length f)) in
@@ -72,3 +79,6 @@ module _ (i : Instrument) where
                 ∙ ap read_of (take-append_seam f (drop (length f) bytes) ∙ same)
                 ∙ by.reads;
           })
+
+-- what each way out of `write` has to say
+pub ruleset refusals = (call_wrong, call_short, call_writes)

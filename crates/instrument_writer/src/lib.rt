@@ -1,5 +1,5 @@
-// Document 02, W4, "Saving an instrument": the writer of document 01's instrument file. Reading what it wrote gives the same record, and writing what was read from an accepted file
-// gives the same bytes (specs/Saving.antt).
+// Document 02, W4, "Saving an instrument": the writer of document 01's instrument file. Reading what it wrote
+// gives the same record, and writing what was read from an accepted file gives the same bytes (specs/Saving.antt).
 #![tactic(auto)]
 
 ghost use Rattle.std.specs.Prelude.{◌≡◌, true, ◌++◌, suc, ◌+◌, ◌*◌, ◌≤◌, ◌<◌, length};
@@ -8,7 +8,7 @@ ghost use Rattle.counting.specs.Below.{gather};
 ghost use Rattle.little_endian.specs.Numbers.{le16, le32, le_f64};
 ghost use Rattle.instrument.specs.Valid.{string_at, valid};
 ghost use Rattle.instrument_encoding.specs.Encode.{common_bytes, string_bytes, head_bytes, key_bytes, section_bytes, encode};
-ghost use Rattle.instrument_writer.specs.Pieces.{pair_bytes, table_bytes};
+ghost use Rattle.instrument_writer.specs.Pieces.{pair_bytes, table_bytes, counted_length};
 ghost use Rattle.instrument_writer.specs.Write.{WriteMeets};
 
 use instrument::Instrument;
@@ -97,33 +97,6 @@ fn put_key(b: &mut [u8], p: usize, k: KeyDesign, strings: &[LoopDesign])
     put_strings(b, p + 36, strings);
 }
 
-// The keys' sections from p on; `rest` is the strings of the keys that are left.
-fn put_keys(b: &mut [u8], p: usize, i: Instrument)
-    requires { (valid i ≡ true) × (p + 36 * i.key_count + 44 * i.string_count ≤ length b.old) }
-    ensures { b.new ≡ sets b.old p (gather i.key_count (λ k. section_bytes i (suc k))) }
-{
-    let keys = &i.keys[..i.key_count];
-    let mut rest = &i.strings[..];
-    let mut at = p;
-    for key in keys {
-        let (strings, after) = rest.split_at(key.strings);
-        put_key(b, at, *key, strings);
-        at += 36 + 44 * key.strings;
-        rest = after;
-    }
-}
-
-fn put_sections(b: &mut [u8], p: usize, i: Instrument)
-    requires { (valid i ≡ true) × (p + 76 + 36 * i.key_count + 44 * i.string_count ≤ length b.old) }
-    ensures { b.new ≡ sets b.old p (gather (i.key_count + 1) (section_bytes i)) }
-{
-    let common = i.common;
-    put_common(b, p, common);
-    put_keys(b, p + 76, i);
-}
-
-// ---- the table
-
 fn put_pair(b: &mut [u8], p: usize, offset: usize, size: usize)
     requires { (p + 8 ≤ length b.old) × (offset < 0x1_0000_0000) × (size < 0x1_0000_0000) }
     ensures { b.new ≡ sets b.old p (le32 offset ++ le32 size) }
@@ -132,58 +105,103 @@ fn put_pair(b: &mut [u8], p: usize, offset: usize, size: usize)
     put_u32(b, p + 4, size as u32);
 }
 
-// The keys' pairs: each section starts where the one before it ends, the first key's behind table and common section.
-fn put_pairs(b: &mut [u8], i: Instrument)
-    requires { (valid i ≡ true) × (12 + 8 * i.key_count ≤ length b.old) }
-    ensures { b.new ≡ sets b.old 12 (gather i.key_count (λ k. pair_bytes i (suc k))) }
-{
-    let keys = &i.keys[..i.key_count];
-    let mut offset = 88 + 8 * i.key_count;
-    for (k, key) in keys.iter().enumerate() {
-        let size = 36 + 44 * key.strings;
-        put_pair(b, 12 + 8 * k, offset, size);
-        offset += size;
+// ---- the file
+
+// A record that some accepted file gives. How many places its arrays have is said too, since a proof behind a `&`
+// does not see it.
+#[derive(Clone, Copy)]
+struct ValidInstrument {
+    instrument: Instrument,
+    ghost valid: { valid instrument ≡ true },
+    ghost places: { (length instrument.keys ≡ 16) × (length instrument.strings ≡ 32) },
+}
+
+impl ValidInstrument {
+    // The keys' sections from p on; `rest` is the strings of the keys that are left.
+    fn put_keys(&self, b: &mut [u8], p: usize)
+        requires { p + 36 * self.now.instrument.key_count + 44 * self.now.instrument.string_count ≤ length b.old }
+        ensures { b.new ≡ sets b.old p (gather self.now.instrument.key_count (λ k. section_bytes self.now.instrument (suc k))) }
+    {
+        let keys = &self.instrument.keys[..self.instrument.key_count];
+        let mut rest = &self.instrument.strings[..];
+        let mut at = p;
+        for key in keys {
+            let (strings, after) = rest.split_at(key.strings);
+            put_key(b, at, *key, strings);
+            at += 36 + 44 * key.strings;
+            rest = after;
+        }
+    }
+
+    fn put_sections(&self, b: &mut [u8], p: usize)
+        requires { p + 76 + 36 * self.now.instrument.key_count + 44 * self.now.instrument.string_count ≤ length b.old }
+        ensures { b.new ≡ sets b.old p (gather (self.now.instrument.key_count + 1) (section_bytes self.now.instrument)) }
+    {
+        let common = self.instrument.common;
+        put_common(b, p, common);
+        self.put_keys(b, p + 76);
+    }
+
+    // The keys' pairs in the table: each section starts where the one before it ends, the first key's behind table
+    // and common section.
+    fn put_pairs(&self, b: &mut [u8])
+        requires { 12 + 8 * self.now.instrument.key_count ≤ length b.old }
+        ensures { b.new ≡ sets b.old 12 (gather self.now.instrument.key_count (λ k. pair_bytes self.now.instrument (suc k))) }
+    {
+        let keys = &self.instrument.keys[..self.instrument.key_count];
+        let mut offset = 88 + 8 * self.instrument.key_count;
+        for (k, key) in keys.iter().enumerate() {
+            let size = 36 + 44 * key.strings;
+            put_pair(b, 12 + 8 * k, offset, size);
+            offset += size;
+        }
+    }
+
+    fn put_table(&self, b: &mut [u8])
+        requires { 12 + 8 * self.now.instrument.key_count ≤ length b.old }
+        ensures { b.new ≡ sets b.old 0 (table_bytes self.now.instrument) }
+    {
+        let n = self.instrument.key_count;
+        put_u32(b, 0, (n + 1) as u32);
+        put_pair(b, 4, 12 + 8 * n, 76);
+        self.put_pairs(b);
+    }
+
+    fn put_file(&self, b: &mut [u8])
+        requires { length (encode self.now.instrument) ≤ length b.old }
+        ensures { b.new ≡ sets b.old 0 (encode self.now.instrument) }
+    {
+        self.put_table(b);
+        self.put_sections(b, 12 + 8 * self.instrument.key_count);
     }
 }
 
-fn put_table(b: &mut [u8], i: Instrument)
-    requires { (valid i ≡ true) × (12 + 8 * i.key_count ≤ length b.old) }
-    ensures { b.new ≡ sets b.old 0 (table_bytes i) }
+// The file's length; none for counts that no file has, so that the products cannot wrap.
+fn file_length(keys: usize, strings: usize) -> usize
+    ensures { result ≡ counted_length keys strings }
 {
-    let n = i.key_count;
-    put_u32(b, 0, (n + 1) as u32);
-    put_pair(b, 4, 12 + 8 * n, 76);
-    put_pairs(b, i);
-}
-
-// ---- the file
-
-fn put_file(b: &mut [u8], i: Instrument)
-    requires { (valid i ≡ true) × (length (encode i) ≤ length b.old) }
-    ensures { b.new ≡ sets b.old 0 (encode i) }
-{
-    put_table(b, i);
-    put_sections(b, 12 + 8 * i.key_count, i);
-}
-
-fn file_length(i: Instrument) -> usize
-    requires { valid i ≡ true }
-    ensures { result ≡ length (encode i) }
-{
-    88 + 44 * i.key_count + 44 * i.string_count
+    if keys > 16 {
+        return 0;
+    }
+    if strings > 32 {
+        return 0;
+    }
+    88 + 44 * keys + 44 * strings
 }
 
 // Writes the instrument's file into the first bytes lent, or refuses as 7 or 20 and changes none.
+#[tactic(auto, using(crate::proofs::Whole::refusals))]
 pub fn write(i: Instrument, bytes: &mut [u8]) -> Result<usize, Refusal>
     ensures { WriteMeets i bytes.old result bytes.new }
 {
-    if !is_given(i) {
+    let given = is_given(i);
+    let length = file_length(i.key_count, i.string_count);
+    if !given {
         return Err(Refusal::Record);
     }
-    let length = file_length(i);
     if bytes.len() < length {
         return Err(Refusal::FileRoom);
     }
-    put_file(bytes, i);
+    ValidInstrument { instrument: i }.put_file(bytes);
     Ok(length)
 }

@@ -3,7 +3,7 @@
 
 ghost use Rattle.std.specs.Prelude.{◌≤◌, length};
 
-use little_endian::{f64_at, put_f64, put_u16, put_u32, u16_at, u32_at};
+use little_endian::{f64_at, part, put_f64, put_u16, put_u32, u16_at, u32_at};
 
 pub const HEADER: usize = 58;
 
@@ -52,17 +52,9 @@ pub fn put_samples(samples: &[f64], bytes: &mut [u8]) -> usize
 
 // ---- reading
 
-const RIFF: u32 = 0x4646_4952;
-
-const WAVE: u32 = 0x4556_4157;
-
-const FMT: u32 = 0x2074_6d66;
-
-const DATA: u32 = 0x6174_6164;
-
 // Whether a file that begins with these 12 bytes is a WAV file.
 pub fn is_wave(b: &[u8]) -> bool {
-    u32_at(b, 0) == RIFF && u32_at(b, 8) == WAVE
+    b.starts_with(b"RIFF") && part(b, 8, 4).starts_with(b"WAVE")
 }
 
 #[derive(Clone, Copy)]
@@ -74,10 +66,12 @@ pub enum Chunk {
 
 // A chunk's first 8 bytes are its name and its size.
 pub fn chunk_of(b: &[u8]) -> Chunk {
-    match u32_at(b, 0) {
-        FMT => Chunk::Format,
-        DATA => Chunk::Data,
-        _ => Chunk::Other,
+    if b.starts_with(b"fmt ") {
+        Chunk::Format
+    } else if b.starts_with(b"data") {
+        Chunk::Data
+    } else {
+        Chunk::Other
     }
 }
 
@@ -110,7 +104,8 @@ pub fn is_mono_64(format: Format) -> bool {
 
 // As many floats as `samples` has places, eight bytes each; bytes that are missing count as 0.
 pub fn get_samples(bytes: &[u8], samples: &mut [f64]) {
-    for (i, sample) in samples.iter_mut().enumerate() {
-        *sample = f64_at(bytes, i.wrapping_mul(8));
+    let mut chunks = bytes.chunks(8);
+    for sample in samples {
+        *sample = f64_at(chunks.next().unwrap_or(&[]), 0);
     }
 }

@@ -45,12 +45,14 @@ module _ (i : Instrument) (key : ℕ) where
       go true e = absurd (none-some (index_of i key) (sym e))
       go false e = refl
 
-pub whole_is : (i : Instrument) (keys : List ℕ) (weights : List Float) → (eqb (length keys) (length weights) && list_all (has_key i) keys) ≡ whole_pairs i keys weights
+pub whole_is : (i : Instrument) (keys : List ℕ) (weights : List Float)
+    → (eqb (length keys) (length weights) && list_all (has_key i) keys) ≡ whole_pairs i keys weights
 unfolding whole_pairs
 whole_is i keys weights =
     ap (λ (t : Bool). eqb (length keys) (length weights) && t) (ap (list_all (has_key i)) (sym (take-length keys)) ∙ all_first 0 (has_key i) keys (length keys) (omega arith))
 
-pub by_pairs : (i : Instrument) (keys : List ℕ) (weights : List Float) → fold (λ (x : Instrument) (p : ℕ × Float). weighted x p.0 p.1) i (zip keys weights) ≡ weighted_by i keys weights
+pub by_pairs : (i : Instrument) (keys : List ℕ) (weights : List Float)
+    → fold (λ (x : Instrument) (p : ℕ × Float). weighted x p.0 p.1) i (zip keys weights) ≡ weighted_by i keys weights
 unfolding weighted_by
 by_pairs i [] ws = refl
 by_pairs i (key ∷ keys) [] = refl

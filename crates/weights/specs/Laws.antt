@@ -1,5 +1,7 @@
--- What setting a weight leaves and what it decides. No key comes or goes (`has_same`); of two weights for one key the later stands (`later_stands`); and a record that an accepted file gives
--- stays one exactly where the weight is in its range (`weighted_valid`, for all pairs `whole_valid`), so that a writer's 7 then says that it is not. Assumes nothing.
+-- What setting a weight leaves and what it decides. No key comes or goes (`has_same`); of two weights for one key the
+-- later stands (`later_stands`); and a record that an accepted file gives
+-- stays one exactly where the weight is in its range (`weighted_valid`, for all pairs `whole_valid`), so that a
+-- writer's 7 then says that it is not. Assumes nothing.
 use Rattle.std.specs.Prelude.{◌≡◌, Bool, false, ◌&&◌, eqb, get_or, set, Float}
 use Rattle.std.proofs.Math.Path.{refl, ap}
 use Rattle.std.proofs.Common.{sym, ◌∙◌, ⊎_elim, le_refl, eq-or-lt_of_le, le_of_suc-le-suc, arith, get_or-set_same, get_or-set_other, set-set}
@@ -53,7 +55,8 @@ below_decides P (suc n) k q h =
 -- ---- keys of which one is set
 
 -- what a setting leaves of its key it leaves of every key
-set_leaves : {A : Type 0} (f : KeyDesign → A) (keys : List KeyDesign) (k : ℕ) (d : KeyDesign) → f d ≡ f (key_at keys k) → (j : ℕ) → f (key_at (set keys k d) j) ≡ f (key_at keys j)
+set_leaves : {A : Type 0} (f : KeyDesign → A) (keys : List KeyDesign) (k : ℕ) (d : KeyDesign) → f d ≡ f (key_at keys k)
+    → (j : ℕ) → f (key_at (set keys k d) j) ≡ f (key_at keys j)
 set_leaves f [] k d e j = refl
 set_leaves f (x ∷ keys) zero d e zero = e
 set_leaves f (x ∷ keys) zero d e (suc j) = refl
@@ -200,7 +203,8 @@ later_stands i key w v = by_test (has_key i key) refl
 
 -- weights in their range, for keys that are there, keep a record one that an accepted file gives
 module _ (keys : List ℕ) (weights : List Float) where
-  pub whole_valid : (i : Instrument) → valid i ≡ true → whole_pairs i keys weights ≡ true → all_below (length weights) (λ j. weight_in_range (get_or weights j nan)) ≡ true
+  pub whole_valid : (i : Instrument) → valid i ≡ true → whole_pairs i keys weights ≡ true
+      → all_below (length weights) (λ j. weight_in_range (get_or weights j nan)) ≡ true
       → valid (weighted_by i keys weights) ≡ true
   unfolding whole_pairs weighted_by
   whole_valid i v whole ranges =

@@ -1,5 +1,6 @@
-// Document 02, W4: "Technicians adjust weights and pass the instrument to the next house." The weights of a record's keys, set by the keys' numbers. No weight is tested here: whether
-// the record is still one that a file gives is the writer's question.
+// Document 02, W4: "Technicians adjust weights and pass the instrument to the next house." The weights of a record's
+// keys, set by the keys' numbers. No weight is tested here: whether the record is still one that a file gives is the
+// writer's question.
 #![tactic(auto)]
 
 ghost use Rattle.std.specs.Prelude.{◌≡◌, cond, Some, None};

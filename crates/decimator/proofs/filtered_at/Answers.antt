@@ -10,5 +10,6 @@ use Rattle.decimator.proofs.filtered_at.Goals as goal
 pub returns : goal.returns
 returns c =
     let a = c.args in
-    fold_from_yields_List _ (λ s k. weighed a.x.now a.taps.now a.at k s) _ _ c.fold.ensures.ran (YieldsList-from_range 0 127 127 refl refl) (λ s k r q e. search rules)
+    fold_from_yields_List _ (λ s k. weighed a.x.now a.taps.now a.at k s) _ _ c.fold.ensures.ran
+    (YieldsList-from_range 0 127 127 refl refl) (λ s k r q e. search rules)
     ∙ tap_sum_fold a.x.now a.taps.now a.at 127

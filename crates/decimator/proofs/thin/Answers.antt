@@ -11,13 +11,15 @@ loop-i-init c = (refl, stored_start)
 
 pub overflow_mul-i : goal.overflow_mul-i
 overflow_mul-i c =
-    let start : c.loop-i.i * c.args.factor < 1048576 = let b = start_below (length c.args.x.now) c.args.factor c.loop-i.i c.requires.several (rw c.requires.room at c.loop-i-test.true) in
+    let start : c.loop-i.i * c.args.factor < 1048576 =
+    let b = start_below (length c.args.x.now) c.args.factor c.loop-i.i c.requires.several (rw c.requires.room at c.loop-i-test.true) in
     omega (arith, c.requires.most) in
     let b = start in omega arith
 
 pub filtered_at-requires : goal.filtered_at-requires
 filtered_at-requires c =
-    let start : c.loop-i.i * c.args.factor < 1048576 = let b = start_below (length c.args.x.now) c.args.factor c.loop-i.i c.requires.several (rw c.requires.room at c.loop-i-test.true) in
+    let start : c.loop-i.i * c.args.factor < 1048576 =
+    let b = start_below (length c.args.x.now) c.args.factor c.loop-i.i c.requires.several (rw c.requires.room at c.loop-i-test.true) in
     omega (arith, c.requires.most) in
     (start, c.requires.many)
 

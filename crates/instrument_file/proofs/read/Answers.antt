@@ -35,7 +35,8 @@ string_sum-m-requires c =
     let h2 = sym c.is_chained.ensures ∙ c.if-not-is_chained.false in
     let h3 = sym c.is_measured.ensures ∙ c.if-not-is_measured.false in
     let h4 = sym c.is_fielded.ensures ∙ c.if-not-is_fielded.false in
-    let most = sum_fits c.args.f.now c.key_count-n.result c.key_count-n.ensures.0 h1 h2 h3 h4 c.key_count-n.ensures.2 c.keys_of-keys.result c.keys_of-keys.ensures in
+    let most = sum_fits c.args.f.now c.key_count-n.result c.key_count-n.ensures.0 h1 h2 h3 h4
+    c.key_count-n.ensures.2 c.keys_of-keys.result c.keys_of-keys.ensures in
     omega arith
 
 pub returns-then-m-gt32 : goal.returns-then-m-gt32
@@ -44,7 +45,8 @@ returns-then-m-gt32 c =
     let h2 = sym c.is_chained.ensures ∙ c.if-not-is_chained.false in
     let h3 = sym c.is_measured.ensures ∙ c.if-not-is_measured.false in
     let h4 = sym c.is_fielded.ensures ∙ c.if-not-is_fielded.false in
-    refused_5 c.args.f.now c.key_count-n.result c.key_count-n.ensures.0 h1 h2 h3 h4 c.key_count-n.ensures.2 c.keys_of-keys.result c.keys_of-keys.ensures c.string_sum-m.result c.string_sum-m.ensures c.if-m-gt32.true
+    refused_5 c.args.f.now c.key_count-n.result c.key_count-n.ensures.0 h1 h2 h3 h4
+    c.key_count-n.ensures.2 c.keys_of-keys.result c.keys_of-keys.ensures c.string_sum-m.result c.string_sum-m.ensures c.if-m-gt32.true
 
 pub returns-then-not-keys_apart : goal.returns-then-not-keys_apart
 returns-then-not-keys_apart c =
@@ -52,15 +54,21 @@ returns-then-not-keys_apart c =
     let h2 = sym c.is_chained.ensures ∙ c.if-not-is_chained.false in
     let h3 = sym c.is_measured.ensures ∙ c.if-not-is_measured.false in
     let h4 = sym c.is_fielded.ensures ∙ c.if-not-is_fielded.false in
-    refused_6 c.args.f.now c.key_count-n.result c.key_count-n.ensures.0 h1 h2 h3 h4 c.key_count-n.ensures.2 c.keys_of-keys.result c.keys_of-keys.ensures c.string_sum-m.result c.string_sum-m.ensures c.if-m-gt32.false (sym c.keys_apart.ensures ∙ c.if-not-keys_apart.true)
+    refused_6 c.args.f.now c.key_count-n.result c.key_count-n.ensures.0 h1 h2 h3 h4
+    c.key_count-n.ensures.2 c.keys_of-keys.result c.keys_of-keys.ensures c.string_sum-m.result c.string_sum-m.ensures c.if-m-gt32.false
+    (sym c.keys_apart.ensures ∙ c.if-not-keys_apart.true)
 
 pub instrument_of-requires : goal.instrument_of-requires
 instrument_of-requires c =
     let h1 = sym c.is_headed.ensures ∙ c.if-not-is_headed.false in
     let h2 = sym c.is_chained.ensures ∙ c.if-not-is_chained.false in
     let h3 = sym c.is_measured.ensures ∙ c.if-not-is_measured.false in
-    let h4 = sym c.is_fielded.ensures ∙ c.if-not-is_fielded.false in
-    (c.key_count-n.ensures.2, c.keys_of-keys.ensures, sum_is c.args.f.now c.key_count-n.result c.key_count-n.ensures.0 h1 h2 h3 h4 c.key_count-n.ensures.2 c.keys_of-keys.result c.keys_of-keys.ensures c.string_sum-m.result c.string_sum-m.ensures, c.if-m-gt32.false)
+    let h4 = sym c.is_fielded.ensures ∙ c.if-not-is_fielded.false in (
+      c.keys_of-keys.ensures,
+      sum_is c.args.f.now c.key_count-n.result c.key_count-n.ensures.0 h1 h2 h3 h4
+          c.key_count-n.ensures.2 c.keys_of-keys.result c.keys_of-keys.ensures c.string_sum-m.result c.string_sum-m.ensures,
+      c.if-m-gt32.false,
+    )
 
 pub returns : goal.returns
 returns c =
@@ -68,4 +76,6 @@ returns c =
     let h2 = sym c.is_chained.ensures ∙ c.if-not-is_chained.false in
     let h3 = sym c.is_measured.ensures ∙ c.if-not-is_measured.false in
     let h4 = sym c.is_fielded.ensures ∙ c.if-not-is_fielded.false in
-    ap Ok c.instrument_of.ensures ∙ accepts c.args.f.now c.key_count-n.result c.key_count-n.ensures.0 h1 h2 h3 h4 c.key_count-n.ensures.2 c.keys_of-keys.result c.keys_of-keys.ensures c.string_sum-m.result c.string_sum-m.ensures c.if-m-gt32.false (sym c.keys_apart.ensures ∙ c.if-not-keys_apart.false)
+    ap Ok c.instrument_of.ensures ∙ accepts c.args.f.now c.key_count-n.result c.key_count-n.ensures.0 h1 h2 h3 h4
+    c.key_count-n.ensures.2 c.keys_of-keys.result c.keys_of-keys.ensures c.string_sum-m.result c.string_sum-m.ensures c.if-m-gt32.false
+    (sym c.keys_apart.ensures ∙ c.if-not-keys_apart.false)

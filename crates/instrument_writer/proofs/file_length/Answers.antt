@@ -1,20 +1,16 @@
--- The length of the encoding, of at most 16 keys and 32 strings.
-use native.Mathlib.Omega.{arith}
-use Rattle.instrument.specs.ValidLaws.{valid_counts}
-use Rattle.instrument_encoding.proofs.Lengths.{encode_length}
+-- By cases on the two counts.
+use Rattle.instrument_writer.specs.Pieces.{counted_length}
+use borrow.Author.Tests.{le-leb, lt-leb}
 use Rattle.instrument_writer.proofs.file_length.Goals as goal
 
-pub overflow_mul-result : goal.overflow_mul-result
-overflow_mul-result c = let few = valid_counts c.args.i c.requires in omega arith
+pub returns-then-keys-gt16 : goal.returns-then-keys-gt16
+unfolding counted_length
+returns-then-keys-gt16 c = rw (lt-leb c.args.keys 16 c.if-keys-gt16.true)
 
-pub overflow_add-result : goal.overflow_add-result
-overflow_add-result c = let few = valid_counts c.args.i c.requires in omega arith
-
-pub overflow_mul-result-2 : goal.overflow_mul-result-2
-overflow_mul-result-2 c = let few = valid_counts c.args.i c.requires in omega arith
-
-pub overflow_add-result-2 : goal.overflow_add-result-2
-overflow_add-result-2 c = let few = valid_counts c.args.i c.requires in omega arith
+pub returns-then-strings-gt32 : goal.returns-then-strings-gt32
+unfolding counted_length
+returns-then-strings-gt32 c = rw (le-leb c.args.keys 16 c.if-keys-gt16.false, lt-leb c.args.strings 32 c.if-strings-gt32.true)
 
 pub returns : goal.returns
-returns c = omega (arith, encode_length c.args.i c.requires)
+unfolding counted_length
+returns c = rw (le-leb c.args.keys 16 c.if-keys-gt16.false, le-leb c.args.strings 32 c.if-strings-gt32.false)

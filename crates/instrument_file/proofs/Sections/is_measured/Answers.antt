@@ -1,0 +1,9 @@
+-- The expression is the definition of specs/File.antt, test by test: each call answers one by its contract.
+use Rattle.counting.specs.Every.{every, every_after}
+use Rattle.instrument_file.specs.File.{measured_key, key_section, measured}
+use Rattle.instrument_file.proofs.Tests.{all_in_range}
+use Rattle.instrument_file.proofs.Sections.is_measured.Goals as goal
+
+pub returns : goal.returns
+unfolding measured every every_after
+returns c = let each = all_in_range (λ k. measured_key (key_section c.args.self.file.now k)) c.args.self.keys in cc

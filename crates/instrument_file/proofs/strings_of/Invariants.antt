@@ -1,7 +1,0 @@
--- The invariant: the strings of the keys before k are in place, m of them, and zeros after them. Start, turn and end are laws of proofs/Filled.antt.
-use Rattle.std.proofs.Common.{◌≡◌, take}
-use Rattle.instrument_file.proofs.Filled.{StringsFilled}
-use Rattle.instrument_file.proofs.strings_of.Given as goal
-
-abbrev pub invariant-loop-k : goal.invariant-loop-k
-invariant-loop-k l = (l.k-end ≡ l.n) × (l.used ≡ take l.n l.fn.keys) × StringsFilled l.f l.n l.fn.keys l.out l.m l.k

@@ -1,8 +1,0 @@
--- The keys behind the common section: `sections_stored`.
-use Rattle.instrument_writer.proofs.Loops.{sections_stored}
-use Rattle.instrument_writer.proofs.put_sections.Goals as goal
-
-pub returns : goal.returns
-returns c =
-    let a = c.args in
-    sections_stored a.i a.b.now _ _ a.p c.put_common.ensures c.put_keys.ensures
