@@ -106,20 +106,33 @@ impl From<Reply> for Turn {
 }
 
 impl Console {
-    // At the start: the scratch cells that play and go ask for, all of the trace, all of the work memory.
-    pub fn open(instrument: Instrument, work: &mut [f64]) -> Result<Console, Refusal> {
+    // What an open leaves, and its answer. At the start are lent: the scratch cells that play and go ask for, all of the trace, all of
+    // the work memory.
+    fn begin(instrument: Instrument, work: &mut [f64]) -> (Console, Result<Answer, Refusal>) {
         let lent = Lent {
             scratch: session_record::scratch_cells(instrument),
             trace: LONGEST as usize,
             work: work.len(),
         };
         let Outcome { answer, session } = session::open(instrument, work);
-        answer?;
-        Ok(Console {
+        let console = Console {
             instrument,
             session,
             lent,
-        })
+        };
+        (console, answer)
+    }
+
+    pub fn open(instrument: Instrument, work: &mut [f64]) -> Result<Console, Refusal> {
+        let (console, answer) = Console::begin(instrument, work);
+        answer?;
+        Ok(console)
+    }
+
+    // The same where the open may be refused: then each call that tests the record is.
+    pub fn over(instrument: Instrument, work: &mut [f64]) -> Console {
+        let (console, _) = Console::begin(instrument, work);
+        console
     }
 
     pub fn position(&self) -> u64 {

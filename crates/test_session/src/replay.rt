@@ -3,6 +3,8 @@ use crate::stored::{Stored, are_sums, is_answer, read_bytes, stored_in};
 use crate::sums::sum_of;
 use console::script::command_of;
 use console::{Console, Failure, Line, Memory, Reply, Turn};
+use instrument::Instrument;
+use instrument_fields::{no_common, no_key, no_string};
 use refusal::Refusal;
 use session::Answer;
 
@@ -16,11 +18,11 @@ pub struct Tally {
     pub unreadable: u64,
 }
 
-// There is no console where the list's instrument was refused. `line` numbers the script's next line; the last answer has a text, and so many samples and forces.
+// `line` numbers the script's next line; the last answer has a text, and so many samples and forces.
 #[derive(Drop)]
 pub struct Replay<'a> {
     memory: Memory<'a>,
-    console: Option<Console>,
+    console: Console,
     line: u64,
     text: Line,
     samples: usize,
@@ -28,12 +30,15 @@ pub struct Replay<'a> {
     tally: Tally,
 }
 
-// A new list: its instrument's file, read and opened.
-fn open(digits: &[u8], work: &mut [f64]) -> Result<Console, Refusal> {
-    let mut file = [0u8; 4096];
-    let n = read_bytes(digits, &mut file);
-    let instrument = instrument_file::read(&file[..n])?;
-    Console::open(instrument, work)
+// What stands where a file is refused: each call on it is refused too.
+fn no_instrument() -> Instrument {
+    Instrument {
+        common: no_common(),
+        key_count: 0,
+        string_count: 0,
+        keys: [no_key(); 16],
+        strings: [no_string(); 32],
+    }
 }
 
 fn call(console: &mut Console, line: &[u8], memory: &mut Memory<'_>) -> Result<Turn, Failure> {
@@ -41,12 +46,14 @@ fn call(console: &mut Console, line: &[u8], memory: &mut Memory<'_>) -> Result<T
 }
 
 impl<'a> Replay<'a> {
+    // No file is read yet, as if an empty one were refused.
     pub fn new(memory: Memory<'a>) -> Replay<'a> {
+        let console = Console::over(no_instrument(), memory.work);
         Replay {
             memory,
-            console: None,
-            line: 0,
-            text: Line::new(),
+            console,
+            line: 1,
+            text: Line::of(Refusal::SectionCount),
             samples: 0,
             forces: 0,
             tally: Tally::default(),
@@ -57,17 +64,16 @@ impl<'a> Replay<'a> {
         self.tally
     }
 
+    // A new list: its instrument's file, read and opened.
     fn open(&mut self, digits: &[u8]) {
-        match open(digits, self.memory.work) {
-            Ok(console) => {
-                self.text = console.line_of(0, Ok(Reply::Called(Answer::Opened)));
-                self.console = Some(console);
-            }
-            Err(refusal) => {
-                self.text = Line::of(refusal);
-                self.console = None;
-            }
-        }
+        let mut file = [0u8; 4096];
+        let n = read_bytes(digits, &mut file);
+        let read = instrument_file::read(&file[..n]);
+        self.console = Console::over(read.unwrap_or(no_instrument()), self.memory.work);
+        self.text = match read {
+            Ok(_) => self.console.line_of(0, Ok(Reply::Called(Answer::Opened))),
+            Err(refusal) => Line::of(refusal),
+        };
         self.line = 1;
         self.samples = 0;
         self.forces = 0;
@@ -75,11 +81,8 @@ impl<'a> Replay<'a> {
     }
 
     fn call(&mut self, line: &[u8]) {
-        let Some(console) = &mut self.console else {
-            return;
-        };
-        let turn = call(console, line, &mut self.memory);
-        self.text = console.line_of(self.line, turn.map(|turn| turn.reply));
+        let turn = call(&mut self.console, line, &mut self.memory);
+        self.text = self.console.line_of(self.line, turn.map(|turn| turn.reply));
         self.line = self.line.wrapping_add(1);
         self.samples = turn.map_or(0, |turn| turn.samples);
         self.forces = turn.map_or(0, |turn| turn.forces);

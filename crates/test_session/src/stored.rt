@@ -1,6 +1,7 @@
 // The stored lines: a word, a space and what follows it.
 ghost use Rattle.std.specs.Prelude.{◌≤◌, length};
 
+use little_endian::part;
 use std::fmt::{InlineText, Write};
 
 #[derive(Clone, Copy)]
@@ -40,11 +41,16 @@ pub fn read_bytes(digits: &[u8], bytes: &mut [u8]) -> usize
     bytes.len().min(digits.len() / 2)
 }
 
+// Whether the sixteen digits at p are those of the sum.
+fn is_sum(digits: &[u8], p: usize, sum: u64) -> bool {
+    let mut text = InlineText::<16>::new();
+    let _ = write!(text, "{sum:016x}");
+    part(digits, p, 16) == text.as_str().as_bytes()
+}
+
 // `SUM SUM`, and nothing behind it.
 pub fn are_sums(stored: &[u8], a: u64, b: u64) -> bool {
-    let mut sums = InlineText::<33>::new();
-    let _ = write!(sums, "{a:016x} {b:016x}");
-    stored == sums.as_str().as_bytes()
+    stored.len() == 33 && is_sum(stored, 0, a) && is_sum(stored, 17, b)
 }
 
 // Whether a line of answer is the stored one; a refusal and a bad line are stored without the words behind their colon.
