@@ -51,30 +51,29 @@ fn is_playable(instrument: Instrument, count: usize, piano: Piano, t: u64, m: u6
     valid & (sound & ((count <= 64) & ((t <= LAST) & (m <= LAST))))
 }
 
-// m samples, with as much scratch as a play asks for. Where the renderer cannot be asked, nothing happens.
+// What is left where the renderer cannot be asked: nothing happens.
+fn unplayed(piano: Piano) -> Run {
+    Run {
+        piano,
+        done: 0,
+        pushed: 0,
+    }
+}
+
+// m samples on the instrument, with as much scratch as a play asks for.
 fn play(
     cells: &mut [f64; CELLS],
     out: &mut [f64; LONGEST],
     trace: &mut [f64; LONGEST],
+    instrument: Instrument,
     render: Render,
     m: u64,
 ) -> Run {
-    let Render {
-        instrument,
-        score,
-        piano,
-        t,
-    } = render;
-    let nothing = Run {
-        piano,
-        done: 0,
-        pushed: 0,
-    };
-    let Some(instrument) = instrument else {
-        return nothing;
-    };
+    let score = render.score;
+    let piano = render.piano;
+    let t = render.t;
     if !is_playable(instrument, score.count, piano, t, m) {
-        return nothing;
+        return unplayed(piano);
     }
     let mut scratch = [0.0 / 0.0; 32];
     let asked = session_record::scratch_cells(instrument);
@@ -130,7 +129,10 @@ pub fn judge(
     }
     let mut out = [4242.0; LONGEST];
     let mut trace = [4242.0; LONGEST];
-    let run = play(cells, &mut out, &mut trace, render, m);
+    let run = match render.instrument {
+        Some(instrument) => play(cells, &mut out, &mut trace, instrument, render, m),
+        None => unplayed(render.piano),
+    };
     let is_same = same_block(&run, &out, &trace, words, n, digested)
         && same_cells(render.instrument, cells, words[43]);
     Some(Judged {

@@ -20,7 +20,7 @@ slice_bounds-lent-end c =
 pub render-requires-clause-renderable : goal.render-requires-clause-renderable
 unfolding scratch_cells
 render-requires-clause-renderable c =
-    let i = c.args.render.instrument in
+    let i = c.args.instrument in
     let passed = c.is_playable.ensures c.if-not-is_playable.false in
     let strings = (strings_bound i passed.0).1 in
     let cells = part_bound i passed.0 in
