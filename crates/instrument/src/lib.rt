@@ -75,8 +75,6 @@ pub fn key_index(instrument: Instrument, key: u8) -> Option<usize>
 
 // ---- refusal 7: an instrument handed in
 
-// One function for each test of all of a list: tried inside `keys_valid`, where the proof did not close.
-
 fn keys_in_range(keys: &[KeyDesign]) -> bool
     ensures { result ≡ list_all key_in_range keys.now }
 {

@@ -1,5 +1,5 @@
-// Document 01, "Instrument file": the records of the common section, of a key and of a string, where each field
-// stands in its section's bytes, the field's range, and the values of a place that holds no key or no string.
+// Document 01, "Instrument file": the records of the common section, of a key and of a string, where each field stands in its section's bytes, the field's range, and the values
+// of a place that holds no key or no string.
 #![tactic(auto)]
 
 ghost use Rattle.std.specs.Prelude.{◌≡◌};

@@ -1,5 +1,4 @@
--- Each part of the test behind those before it, in their order (proofs/Order.antt): what one part requires, an
--- earlier one has tested, and stands at the place behind that test.
+-- Each part of the test behind those before it, in their order (proofs/Order.antt): what one part requires, an earlier one has tested, and stands at the place behind that test.
 use mathlib.Core.Path.{◌≡◌, sym, ◌∙◌}
 use mathlib.Core.Bool.{true}
 use Rattle.instrument_fields.specs.Ranges.{common_in_range}
