@@ -6,6 +6,7 @@ ghost use Rattle.std.specs.Prelude.{◌≡◌, length, Ok};
 ghost use Rattle.instrument_file.specs.File.{read_of};
 ghost use Rattle.refusal.specs.Refusal.{number_of};
 ghost use Rattle.session_words.specs.Layout.{session_size};
+ghost use Rattle.session_words.specs.Session.{session_in};
 ghost use Rattle.crossing.specs.Crossing.{refused_by, accepted_with, report_of, sizes_of, Begins, Opens, Keeps};
 
 use instrument::Instrument;
@@ -93,12 +94,20 @@ pub fn keep(words: &mut [u64], outcome: Outcome) -> Report
     }
 }
 
+// The words in a frame of their own, which is not there yet while the file is read: GINGERFILE_STACK holds for either.
+#[inline(never)]
+fn handed_session(words: &[u64]) -> Option<Session>
+    ensures { result ≡ session_in words.now }
+{
+    session_words::session_at(words)
+}
+
 // What every call on a session does first. The file's refusal is met before that of the words.
 pub fn begin(file: &[u8], words: &[u64]) -> Result<Begun, Refusal>
     ensures { Begins file.now words.now result }
 {
     let instrument = instrument_file::read(file)?;
-    match session_words::session_at(words) {
+    match handed_session(words) {
         Some(session) => Ok(Begun {
             instrument,
             session,

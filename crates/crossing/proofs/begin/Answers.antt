@@ -14,9 +14,9 @@ returns-in_err-instrument c =
 pub returns-in-Some : goal.returns-in-Some
 returns-in-Some c =
     let z = c.args in
-    begins z.file.now z.words.now _ (sym c.read.ensures ∙ c.in_ok-instrument.was) _ (sym c.session_at.ensures ∙ c.in-Some.is)
+    begins z.file.now z.words.now _ (sym c.read.ensures ∙ c.in_ok-instrument.was) _ (sym c.handed_session.ensures ∙ c.in-Some.is)
 
 pub returns-in-None : goal.returns-in-None
 returns-in-None c =
     let z = c.args in
-    begins_not z.file.now z.words.now _ (sym c.read.ensures ∙ c.in_ok-instrument.was) (sym c.session_at.ensures ∙ c.in-None.is)
+    begins_not z.file.now z.words.now _ (sym c.read.ensures ∙ c.in_ok-instrument.was) (sym c.handed_session.ensures ∙ c.in-None.is)
