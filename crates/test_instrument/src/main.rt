@@ -148,6 +148,7 @@ fn read_argument(rt: &(impl Env + Files + Print), i: usize) -> io::Result<bool> 
 }
 
 fn main(rt: HostRuntime) -> io::Result<()> {
+    // the system has the arguments one by one, in no slice: they are counted
     for i in 1usize..usize::MAX {
         if !read_argument(&rt, i)? {
             break;
