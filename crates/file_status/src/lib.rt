@@ -77,12 +77,38 @@ pub fn status_of_stream(files: &impl Files, stream: Stream) -> Option<FileStatus
     status_at(files, stream.path())
 }
 
-// The status of the file at path. It follows links and opens nothing, so it does not wait at a FIFO. A path of 4,096 bytes or more, or with a 0 byte in it, names no file.
-pub fn status_at(files: &impl Files, path: &str) -> Option<FileStatus> {
-    fs::metadata(files, path).ok().map(FileStatus::from)
+// What names a file: text, or any bytes.
+pub trait FilePath: Copy {
+    fn text(&self) -> &str;
+}
+
+impl FilePath for &str {
+    fn text(&self) -> &str {
+        self
+    }
+}
+
+impl FilePath for &[u8] {
+    fn text(&self) -> &str {
+        text_of(self)
+    }
+}
+
+// Bytes as a path. Those that are no UTF-8 text are the empty path, which names no file.
+pub fn text_of(path: &[u8]) -> &str {
+    match str::from_utf8(path) {
+        Ok(text) => text,
+        Err(_) => "",
+    }
+}
+
+// The status of the file at path. It follows links and opens nothing, so it does not wait at a FIFO. A path of 4,096 bytes or more, with a 0 byte in it, or that is no UTF-8 text, names no
+// file.
+pub fn status_at<P: FilePath>(files: &impl Files, path: P) -> Option<FileStatus> {
+    fs::metadata(files, path.text()).ok().map(FileStatus::from)
 }
 
 // Whether the path names a symbolic link.
-pub fn is_link(files: &impl Files, path: &str) -> bool {
-    fs::symlink_metadata(files, path).is_ok_and(|found| found.is_symlink())
+pub fn is_link<P: FilePath>(files: &impl Files, path: P) -> bool {
+    fs::symlink_metadata(files, path.text()).is_ok_and(|found| found.is_symlink())
 }

@@ -1,7 +1,7 @@
 // An instrument from a file that a person names, for programs. What cannot be opened or read is named on standard error; a refused file answers its number.
 #![tactic(auto)]
 
-use file_status::FileStatus;
+use file_status::{FilePath, FileStatus};
 use instrument::Instrument;
 use little_endian::{part, u32_at};
 use program::arguments::Failure;
@@ -21,16 +21,20 @@ pub struct Loaded {
 }
 
 // The refusal's line of answer. The status is that of a refusal also where standard output does not take it.
-pub fn answer_refusal(program: &Program<'_, impl System>, path: &str, refusal: Refusal) -> Failure {
+pub fn answer_refusal<P: FilePath>(
+    program: &Program<'_, impl System>,
+    path: P,
+    refusal: Refusal,
+) -> Failure {
     let line = InlineText::<128>::of(refusal);
-    let _ = program.answer_of(path, line.as_str());
+    let _ = program.answer_of(path.text(), line.as_str());
     Failure::Refused
 }
 
 // The file's instrument, or its refusal as the one line of answer.
-pub fn accept(
+pub fn accept<P: FilePath>(
     program: &Program<'_, impl System>,
-    path: &str,
+    path: P,
     bytes: &[u8],
 ) -> Result<Instrument, Failure> {
     match instrument_file::read(bytes) {
@@ -94,7 +98,8 @@ fn read<S: Read>(
 }
 
 // Answers and messages may not go into the file, which is asked before it can be refused: the refusal would go there too.
-pub fn load(program: &Program<'_, impl System>, path: &str) -> Result<Loaded, Failure> {
+pub fn load<P: FilePath>(program: &Program<'_, impl System>, path: P) -> Result<Loaded, Failure> {
+    let path = path.text();
     let Input { source, file } = input::open(program, path)?;
     let used = InUse {
         file,

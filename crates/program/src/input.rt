@@ -3,7 +3,7 @@ use crate::arguments::Failure;
 use crate::kind;
 use crate::message::CallError;
 use crate::system::{Program, System};
-use file_status::{FileStatus, Stream, status_at, status_of, status_of_stream};
+use file_status::{FilePath, FileStatus, Stream, status_at, status_of, status_of_stream};
 use std::fs::File;
 use std::io;
 use std::io::{Read, Seek, SeekFrom, Stdin};
@@ -63,7 +63,8 @@ pub fn standard(program: &Program<'_, impl System>) -> Result<Input, Failure> {
     of(program, "standard input", source, file)
 }
 
-pub fn open(program: &Program<'_, impl System>, path: &str) -> Result<Input, Failure> {
+pub fn open<P: FilePath>(program: &Program<'_, impl System>, path: P) -> Result<Input, Failure> {
+    let path = path.text();
     kind::check(program, path, status_at(program.rt, path))?;
     match File::open(program.rt, path) {
         Ok(opened) => {

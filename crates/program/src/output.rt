@@ -3,7 +3,7 @@ use crate::arguments::Failure;
 use crate::kind;
 use crate::message::CallError;
 use crate::system::{Program, System};
-use file_status::{FileStatus, Stream, status_at, status_of, status_of_stream};
+use file_status::{FilePath, FileStatus, Stream, status_at, status_of, status_of_stream};
 use std::fs::{File, OpenOptions};
 use std::io::Write;
 use std::{fmt, fs, io};
@@ -86,12 +86,13 @@ fn clash_of(
 }
 
 // What the path names may be written where it is none of those. Nothing is opened.
-pub fn check_apart(
+pub fn check_apart<P: FilePath>(
     program: &Program<'_, impl System>,
-    path: &str,
+    path: P,
     inputs: &[InUse],
     answers: &'static str,
 ) -> Result<(), Failure> {
+    let path = path.text();
     let file = status_at(program.rt, path);
     kind::check(program, path, file)?;
     match clash_of(program.rt, file, inputs, answers) {
@@ -157,7 +158,8 @@ fn make(program: &Program<'_, impl System>, path: &str) -> Result<Output, Failur
 }
 
 // Opens the file as it is, or makes it where there is none.
-pub fn open(program: &Program<'_, impl System>, path: &str) -> Result<Output, Failure> {
+pub fn open<P: FilePath>(program: &Program<'_, impl System>, path: P) -> Result<Output, Failure> {
+    let path = path.text();
     if status_at(program.rt, path).is_none() {
         return make(program, path);
     }
@@ -168,9 +170,9 @@ pub fn open(program: &Program<'_, impl System>, path: &str) -> Result<Output, Fa
 }
 
 // Closes the file, and takes away what was made.
-pub fn withdraw(rt: &impl System, path: &str, out: Output) {
+pub fn withdraw<P: FilePath>(rt: &impl System, path: P, out: Output) {
     if out.is_made {
-        let _ = fs::remove_file(rt, path);
+        let _ = fs::remove_file(rt, path.text());
     }
 }
 

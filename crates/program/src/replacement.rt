@@ -4,7 +4,7 @@ use crate::arguments::Failure;
 use crate::message::{CallError, TransferError};
 use crate::output::{InUse, check_apart, create, open_update};
 use crate::system::{Program, System};
-use file_status::{FileStatus, is_link, status_at, status_of};
+use file_status::{FilePath, FileStatus, is_link, status_at, status_of};
 use std::fmt::InlineText;
 use std::fs::{File, Permissions};
 use std::io::Write;
@@ -15,12 +15,13 @@ use std::{fmt, fs, io};
 
 // The path must name a regular file that may be written, or nothing, and none of those in use. Nothing is made. A rename needs no right to the file that goes; every other output needs it, and
 // so does this one.
-pub fn check(
+pub fn check<P: FilePath>(
     program: &Program<'_, impl System>,
-    path: &str,
+    path: P,
     inputs: &[InUse],
     answers: &'static str,
 ) -> Result<(), Failure> {
+    let path = path.text();
     check_apart(program, path, inputs, answers)?;
     if is_link(program.rt, path) {
         return Err(program.complain(
@@ -167,10 +168,11 @@ fn try_replace(
 }
 
 // The bytes as the file at the path; where it fails it has been said, what was there stays, and nothing is left beside it.
-pub fn replace(
+pub fn replace<P: FilePath>(
     program: &Program<'_, impl System>,
-    path: &str,
+    path: P,
     bytes: &[u8],
 ) -> Result<(), Failure> {
+    let path = path.text();
     try_replace(program, path, bytes).map_err(|e| program.complain(path, e))
 }
