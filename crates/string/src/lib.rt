@@ -2,8 +2,9 @@
 #![tactic(auto)]
 
 ghost use Rattle.std.specs.Prelude.{◌≡◌, ◌+◌, ◌*◌, ◌%◌, ◌≤◌, ◌<◌, ◌^◌, length};
+ghost use Rattle.cells.specs.Line.{line_read, line_write};
 ghost use Rattle.string.specs.String.{LaidOut, size_of, HasLines, IndicesAt};
-ghost use Rattle.string.specs.String.{reads_of, v_in, filtered, point_writes, nut_write, bridge_write};
+ghost use Rattle.string.specs.String.{read_at, write_at, reads_of, v_in, filtered, point_writes, nut_write, bridge_write};
 ghost use Rattle.string.specs.Steps.{u_in, started, finished_out, finished};
 
 use filter::LoopFilter;
@@ -130,6 +131,44 @@ fn next_index(idx: usize, len: usize, t: u64) -> usize
     if next == len { 0 } else { next }
 }
 
+// `Delay::read` and `Delay::write`, on the line's own cells.
+fn read(line: &[f64], idx: usize, t: u64) -> f64
+    requires has_cells { 0 < length line.now }
+    requires idx_at_t { idx ≡ t % length line.now }
+    ensures { result ≡ line_read t line.now }
+{
+    line[idx]
+}
+
+fn write(line: &mut [f64], idx: usize, t: u64, v: f64)
+    requires has_cells { 0 < length line.old }
+    requires idx_at_t { idx ≡ t % length line.old }
+    ensures { line.new ≡ line_write t v line.old }
+{
+    line[idx] = v;
+}
+
+// The line of len cells from cell a of a string's part on.
+fn read_line(part: &[f64], a: usize, len: usize, idx: usize, t: u64) -> f64
+    requires has_cells { 0 < len }
+    requires lies_in_part { a + len ≤ length part.now }
+    requires idx_at_t { idx ≡ t % len }
+    ensures { result ≡ read_at a len t part.now }
+{
+    let e = a + len;
+    read(&part[a..e], idx, t)
+}
+
+fn write_line(part: &mut [f64], a: usize, len: usize, idx: usize, t: u64, v: f64)
+    requires has_cells { 0 < len }
+    requires lies_in_part { a + len ≤ length part.old }
+    requires idx_at_t { idx ≡ t % len }
+    ensures { part.new ≡ write_at a len t v part.old }
+{
+    let e = a + len;
+    write(&mut part[a..e], idx, t, v);
+}
+
 impl StringAt {
     // The string's indices at the sample after t.
     pub fn next_indices(self) -> Indices
@@ -152,14 +191,18 @@ impl StringAt {
         requires all_cells { length part.now ≡ size_of self.design }
         ensures { result ≡ reads_of self.design self.t part.now }
     {
-        let at = self.design.layout();
-        let x = self.indices;
+        let StringAt {
+            design: d,
+            indices: x,
+            t,
+        } = self;
+        let at = d.layout();
         Reads {
-            a: part[x.a],
-            b: part[at.b_l + x.b],
-            c: part[at.b_r + x.b],
-            d: part[at.c_l + x.c],
-            x_nut: part[self.design.na + x.a],
+            a: read_line(part, 0, d.na, x.a, t),
+            b: read_line(part, at.b_l, d.nb, x.b, t),
+            c: read_line(part, at.b_r, d.nb, x.b, t),
+            d: read_line(part, at.c_l, d.nc, x.c, t),
+            x_nut: read_line(part, d.na, d.na, x.a, t),
         }
     }
 
@@ -168,13 +211,17 @@ impl StringAt {
         requires all_cells { length part.old ≡ size_of self.design }
         ensures { part.new ≡ nut_write self.design self.t r (point_writes self.design self.t r inject_h inject_d part.old) }
     {
-        let at = self.design.layout();
-        let x = self.indices;
-        part[at.b_r + x.b] = r.a + inject_h;
-        part[self.design.na + x.a] = r.b + inject_h;
-        part[at.c_r + x.c] = r.c + inject_d;
-        part[at.b_l + x.b] = r.d + inject_d;
-        part[x.a] = -r.x_nut;
+        let StringAt {
+            design: d,
+            indices: x,
+            t,
+        } = self;
+        let at = d.layout();
+        write_line(part, at.b_r, d.nb, x.b, t, r.a + inject_h);
+        write_line(part, d.na, d.na, x.a, t, r.b + inject_h);
+        write_line(part, at.c_r, d.nc, x.c, t, r.c + inject_d);
+        write_line(part, at.b_l, d.nb, x.b, t, r.d + inject_d);
+        write_line(part, 0, d.na, x.a, t, -r.x_nut);
     }
 
     // The loop filter on what reaches the bridge.
@@ -183,7 +230,7 @@ impl StringAt {
         ensures { (result ≡ v_in self.design self.t part.old) × (part.new ≡ filtered self.design self.t part.old) }
     {
         let at = self.design.layout();
-        let v = part[at.c_r + self.indices.c];
+        let v = read_line(part, at.c_r, self.design.nc, self.indices.c, self.t);
         filter::loop_filter(&mut part[at.filter..at.y_s], self.design.filter, v)
     }
 
@@ -193,7 +240,7 @@ impl StringAt {
         ensures { (result ≡ u_in self.design self.t part.old) × (part.new ≡ started self.design self.t part.old) }
     {
         let at = self.design.layout();
-        let v = part[at.c_r + self.indices.c];
+        let v = read_line(part, at.c_r, self.design.nc, self.indices.c, self.t);
         filter::allpass(&mut part[at.filter..at.row], self.design.filter.thiran_a, v)
     }
 
@@ -203,6 +250,6 @@ impl StringAt {
         ensures { part.new ≡ bridge_write self.design self.t v part.old }
     {
         let at = self.design.layout();
-        part[at.c_l + self.indices.c] = v;
+        write_line(part, at.c_l, self.design.nc, self.indices.c, self.t, v);
     }
 }

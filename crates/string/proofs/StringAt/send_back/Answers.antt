@@ -4,4 +4,4 @@ use Rattle.string.proofs.StringAt.send_back.Goals as goal
 
 pub returns : goal.returns
 unfolding bridge_write
-returns c = rw (c.layout-at.ensures.c_l, c.args.self.indices_at.c)
+returns c = rw c.layout-at.ensures.c_l at c.write_line.ensures

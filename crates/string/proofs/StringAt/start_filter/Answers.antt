@@ -11,5 +11,5 @@ returns c =
     let l = c.layout-at.ensures in
     let n : c.layout-at.result.row - c.layout-at.result.filter ≡ 2 = omega (arith, l.row, l.filter) in
     let call = c.allpass.ensures in
-    let x = c.args.self.indices_at.c in
-    (rw (n, l.filter, l.c_r, x) at call.0, rw (call.1, n, l.filter, l.c_r, x))
+    let v = c.read_line-v.ensures in
+    (rw (v, n, l.filter, l.c_r) at call.0, rw (call.1, v, n, l.filter, l.c_r))

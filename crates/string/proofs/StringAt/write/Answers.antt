@@ -1,7 +1,4 @@
 -- `string::StringAt::write` meets its contract: five writes, one after the other, each of the line that starts at its offset. Assumes nothing.
-use mathlib.Core.Path.{◌≡◌}
-use Prim.Native.Nat.{◌+◌, ◌%◌}
-use native.Mathlib.Omega.{arith}
 use Rattle.string.specs.String.{point_writes, nut_write}
 use Rattle.string.proofs.StringAt.write.Goals as goal
 
@@ -9,6 +6,13 @@ pub returns : goal.returns
 unfolding nut_write point_writes
 returns c =
     let l = c.layout-at.ensures in
-    let x = c.args.self.indices_at in
-    let front : 0 + c.args.self.t % c.args.self.design.na ≡ c.args.self.t % c.args.self.design.na = omega arith in
-    rw (l.b_r, l.c_r, l.b_l, x.a, x.b, x.c, front)
+    rw (
+      c.write_line-5.ensures,
+      c.write_line-4.ensures,
+      c.write_line-3.ensures,
+      c.write_line-2.ensures,
+      c.write_line.ensures,
+      l.c_r,
+      l.b_l,
+      l.b_r,
+    )
