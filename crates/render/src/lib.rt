@@ -59,7 +59,7 @@ fn push(trace: &mut [f64], k: usize, force: Option<f64>) -> usize
     }
 }
 
-// The samples of a stretch: the one loop over samples.
+// The samples of a stretch: the one loop over samples, which counts them up.
 fn play_stretch(
     part: &mut [f64],
     scratch: &mut [f64],
@@ -77,13 +77,13 @@ fn play_stretch(
 {
     let Stretch { down, run, t, stop } = stretch;
     let mut piano = run.piano;
+    let mut done = run.done;
     let mut pushed = run.pushed;
     let designs = tables.designs;
     let mut room = [UNINDEXED; 32];
     let indices = &mut room[..designs.len()];
-    strings::first_indices(designs, indices, t + run.done);
-    for done in run.done..stop {
-        let at = t + done;
+    strings::first_indices(designs, indices, t + done);
+    for at in t + done..t + stop {
         let hammer = piano.motion.hammer;
         let s = sample::sample(
             part,
@@ -100,10 +100,11 @@ fn play_stretch(
         put(out, done as usize, s.out);
         pushed = push(trace, pushed, s.force);
         piano.motion = s.motion;
+        done += 1;
     }
     Run {
         piano,
-        done: stop,
+        done,
         pushed,
     }
 }
