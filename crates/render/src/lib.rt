@@ -13,7 +13,7 @@ ghost use Rattle.render.specs.Render.{Advanced, InRange, PianoAt, NextStretch, R
 use instrument::Instrument;
 use sample::{Motion, Tables};
 use score::{Piano, Score, TimedEvent};
-use string::{Indices, StringDesign};
+use string::StringDesign;
 
 // A run in progress: the piano, how many samples are done, and how many forces were pushed.
 #[derive(Clone, Copy)]
@@ -32,9 +32,6 @@ pub struct Stretch {
     pub t: u64,
     pub stop: u64,
 }
-
-// The indices of a string's lines before the first sample.
-const UNINDEXED: Indices = Indices { a: 0, b: 0, c: 0 };
 
 // A store where there is a cell for it: a run without output has none.
 fn put(cells: &mut [f64], i: usize, x: f64)
@@ -80,9 +77,8 @@ fn play_stretch(
     let mut done = run.done;
     let mut pushed = run.pushed;
     let designs = tables.designs;
-    let mut room = [UNINDEXED; 32];
+    let mut room = strings::first_indices(designs, t + done);
     let indices = &mut room[..designs.len()];
-    strings::first_indices(designs, indices, t + done);
     for at in t + done..t + stop {
         let hammer = piano.motion.hammer;
         let s = sample::sample(

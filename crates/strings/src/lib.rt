@@ -3,22 +3,26 @@
 // That the designs fit and the indices are theirs are clauses, and no struct's: the laws speak of lists that need not fit.
 #![tactic(auto)]
 
-ghost use Rattle.std.specs.Prelude.{◌≡◌, ◌+◌, ◌≤◌, length};
+ghost use Rattle.std.specs.Prelude.{◌≡◌, ◌+◌, ◌≤◌, length, take};
 ghost use Rattle.strings.specs.Strings.{AllFit, Indexed, cells_of, turned_all, force_all, no_force, bridge_all, bridge_force};
 ghost use Rattle.float.specs.Float.{zero};
 
 use points::{Constants, Flight, ForceSum};
 use string::{Indices, StringAt, StringDesign};
 
-// The indices of the strings' lines at sample t, each by a division: once for a stretch of samples.
-pub fn first_indices(designs: &[StringDesign], indices: &mut [Indices], t: u64)
+// The indices of a string's lines before they are computed, and past the strings.
+const UNINDEXED: Indices = Indices { a: 0, b: 0, c: 0 };
+
+// The indices of the strings' lines at sample t, each by a division: once for a stretch of samples. The strings' stand in front.
+pub fn first_indices(designs: &[StringDesign], t: u64) -> [Indices; 32]
     requires all_fit { AllFit designs.now }
-    requires one_each { length indices.old ≡ length designs.now }
-    ensures { Indexed designs.now indices.new t }
+    ensures { Indexed designs.now (take (length designs.now) result) t }
 {
+    let mut indices = [UNINDEXED; 32];
     for (i, d) in designs.iter().enumerate() {
         indices[i] = d.indices_at(t);
     }
+    indices
 }
 
 // Carries them on from sample t to the next.

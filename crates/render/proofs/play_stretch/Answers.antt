@@ -20,7 +20,7 @@ loop-at-init c =
       in_range = c.requires.in_range;
       part = refl;
       scratch = refl;
-      indexed = c.first_indices.ensures;
+      indexed = c.first_indices-room.ensures;
     }
 
 pub sample-s-requires : goal.sample-s-requires

@@ -9,6 +9,6 @@ use Rattle.strings.proofs.first_indices.Given as goal
 abbrev pub invariant-loop-i : goal.invariant-loop-i
 invariant-loop-i l =
     record {
-      long : length l.indices ≡ length l.designs;
+      room : length l.indices ≡ 32;
       each : (k : ℕ) → k < l.i → IndicesAt (design_at l.designs k) l.t (indices_in l.indices k);
     }
