@@ -137,7 +137,7 @@ pub extern "C" fn gingerfile_insert(
         (λ i s o. InsertMeets i s work.old (record { position = position; event = event_of kind key velocity }) o work.new) }
 {
     match crossing::begin(file, words) {
-        Ok(begun) => match session_words::event_of(kind, key, velocity) {
+        Ok(begun) => match session_words::checked_event(kind, key, velocity) {
             Some(event) => {
                 let timed = TimedEvent { position, event };
                 let outcome = session::insert(begun.instrument, begun.session, work, timed);
