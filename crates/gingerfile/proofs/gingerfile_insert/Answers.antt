@@ -16,9 +16,9 @@ pub returns-in-None : goal.returns-in-None
 returns-in-None c =
     let z = c.args in
     let none = no_event_told z.kind z.key z.velocity (sym c.checked_event.ensures ∙ c.in-None.is) in
-    insert_none c.begin.ensures _ c.in-Ok.is z.kind z.key none c.refused.ensures refl
+    insert_none c.begin.ensures _ c.in-Ok.is z.kind z.key none c.refused_for.ensures refl
 
 pub returns-in-Err : goal.returns-in-Err
 returns-in-Err c =
     let z = c.args in
-    insert_refused c.begin.ensures _ c.in-Err.is z.kind z.key c.refused-in-Err.ensures refl
+    insert_refused c.begin.ensures _ c.in-Err.is z.kind z.key c.refused_for-in-Err.ensures refl
