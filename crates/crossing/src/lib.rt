@@ -46,15 +46,29 @@ pub struct Begun {
     pub session: Session,
 }
 
-pub fn refused(refusal: Refusal) -> Report
-    ensures { result ≡ refused_by (number_of refusal) }
+// What refuses the file or the words; and the instrument in the file, which is there where the words alone are refused.
+#[derive(Clone, Copy)]
+pub struct NotBegun {
+    pub refusal: Refusal,
+    pub instrument: Option<Instrument>,
+}
+
+// The report of a refusal, by its number.
+pub fn refused(number: u64) -> Report
+    ensures { result ≡ refused_by number }
 {
     Report {
-        refusal: u64::from(refusal),
+        refusal: number,
         value: 0,
         dropped: 0,
         contacts: 0,
     }
+}
+
+pub fn refused_for(refusal: Refusal) -> Report
+    ensures { result ≡ refused_by (number_of refusal) }
+{
+    refused(u64::from(refusal))
 }
 
 pub fn accepted(value: u64, dropped: u64, contacts: u64) -> Report
@@ -90,7 +104,7 @@ pub fn keep(words: &mut [u64], outcome: Outcome) -> Report
             session_words::put_session(words, outcome.session);
             answered(answer)
         }
-        Err(refusal) => refused(refusal),
+        Err(refusal) => refused_for(refusal),
     }
 }
 
@@ -103,16 +117,24 @@ fn handed_session(words: &[u64]) -> Option<Session>
 }
 
 // What every call on a session does first. The file's refusal is met before that of the words.
-pub fn begin(file: &[u8], words: &[u64]) -> Result<Begun, Refusal>
+pub fn begin(file: &[u8], words: &[u64]) -> Result<Begun, NotBegun>
     ensures { Begins file.now words.now result }
 {
-    let instrument = instrument_file::read(file)?;
-    match handed_session(words) {
-        Some(session) => Ok(Begun {
-            instrument,
-            session,
+    match instrument_file::read(file) {
+        Ok(instrument) => match handed_session(words) {
+            Some(session) => Ok(Begun {
+                instrument,
+                session,
+            }),
+            None => Err(NotBegun {
+                refusal: Refusal::Record,
+                instrument: Some(instrument),
+            }),
+        },
+        Err(refusal) => Err(NotBegun {
+            refusal,
+            instrument: None,
         }),
-        None => Err(Refusal::Record),
     }
 }
 

@@ -52,7 +52,7 @@ pub extern "C" fn gingerfile_open(file: &[u8], words: &mut [u64], work: &mut [f6
 {
     match crossing::begin_open(file, words) {
         Ok(instrument) => crossing::keep(words, session::open(instrument, work)),
-        Err(refusal) => crossing::refused(refusal),
+        Err(refusal) => crossing::refused_for(refusal),
     }
 }
 
@@ -75,7 +75,7 @@ pub extern "C" fn gingerfile_play(
             let outcome = session::play(begun.instrument, begun.session, work, scratch, out, trace);
             crossing::keep(words, outcome)
         }
-        Err(refusal) => crossing::refused(refusal),
+        Err(unbegun) => crossing::refused_for(unbegun.refusal),
     }
 }
 
@@ -97,7 +97,7 @@ pub extern "C" fn gingerfile_cue(file: &[u8], words: &mut [u64], work: &mut [f64
             let outcome = cued(begun.instrument, begun.session, work);
             crossing::keep(words, outcome)
         }
-        Err(refusal) => crossing::refused(refusal),
+        Err(unbegun) => crossing::refused_for(unbegun.refusal),
     }
 }
 
@@ -118,7 +118,7 @@ pub extern "C" fn gingerfile_go(
             let outcome = session::go(begun.instrument, begun.session, work, scratch, p);
             crossing::keep(words, outcome)
         }
-        Err(refusal) => crossing::refused(refusal),
+        Err(unbegun) => crossing::refused_for(unbegun.refusal),
     }
 }
 
@@ -137,15 +137,15 @@ pub extern "C" fn gingerfile_insert(
         (λ i s o. InsertMeets i s work.old (record { position = position; event = event_of kind key velocity }) o work.new) }
 {
     match crossing::begin(file, words) {
-        Ok(begun) => match session_words::event_of(kind, key, velocity) {
+        Ok(begun) => match session_words::checked_event(kind, key, velocity) {
             Some(event) => {
                 let timed = TimedEvent { position, event };
                 let outcome = session::insert(begun.instrument, begun.session, work, timed);
                 crossing::keep(words, outcome)
             }
-            None => crossing::refused(Refusal::Record),
+            None => crossing::refused_for(Refusal::Record),
         },
-        Err(refusal) => crossing::refused(refusal),
+        Err(unbegun) => crossing::refused_for(unbegun.refusal),
     }
 }
 
@@ -164,7 +164,7 @@ pub extern "C" fn gingerfile_remove(
             let outcome = session::remove(begun.instrument, begun.session, work, index);
             crossing::keep(words, outcome)
         }
-        Err(refusal) => crossing::refused(refusal),
+        Err(unbegun) => crossing::refused_for(unbegun.refusal),
     }
 }
 
@@ -193,8 +193,10 @@ fn no_energies(refusal: Refusal) -> KeyEnergies
 fn energies_of(file: &[u8], words: &[u64], work: &[f64]) -> Result<Energies, Refusal>
     ensures { Asks file.now words.now work.now result }
 {
-    let begun = crossing::begin(file, words)?;
-    energies::key_energies(begun.instrument, begun.session, work)
+    match crossing::begin(file, words) {
+        Ok(begun) => energies::key_energies(begun.instrument, begun.session, work),
+        Err(unbegun) => Err(unbegun.refusal),
+    }
 }
 
 #[unsafe(no_mangle)]
@@ -232,7 +234,7 @@ pub extern "C" fn gingerfile_adjust(
 {
     match adjusted(file, keys, weights, out) {
         Ok(length) => crossing::accepted(length as u64, 0, 0),
-        Err(refusal) => crossing::refused(refusal),
+        Err(refusal) => crossing::refused_for(refusal),
     }
 }
 

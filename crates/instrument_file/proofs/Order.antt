@@ -16,7 +16,7 @@ use Rattle.instrument_fields.specs.declared.KeyDesign.{KeyDesign}
 use Rattle.instrument_fields.specs.Unused.{no_key}
 use Rattle.instrument.specs.Valid.{keys_in_range, string_sum, keys_apart}
 use Rattle.instrument.proofs.Lists.{string_sum_first, string_sum_most, keys_apart_first}
-use Rattle.instrument_file.specs.File.{headed, chained, measured, fielded, keys_in, instrument_of, read_of}
+use Rattle.instrument_file.specs.File.{headed, chained, measured, fielded, keys_in, instrument_of, refused, read_of}
 use Rattle.instrument_file.specs.FileLaws.{keys_length, keys_in_range_lem}
 
 module _ (f : List ℕ) where
@@ -68,3 +68,11 @@ module _ (f : List ℕ) where
               pub accepts : keys_apart (take n keys) (length (take n keys)) ≡ true → Ok (instrument_of f n) ≡ read_of f
               unfolding read_of instrument_of
               accepts h = rw (← count, h1, h2, h3, h4, ← is, ← sum_is, le-ltb 32 m within, sym apart_is ∙ h)
+
+-- a file that passes the first four tests and has more than 32 strings, in the file's own words
+pub refused_over : (f : List ℕ) → headed f ≡ true → chained f (u32_at f 0 - 1) ≡ true → measured f (u32_at f 0 - 1) ≡ true
+    → fielded f (u32_at f 0 - 1) ≡ true → 32 < string_sum (pad 16 no_key (keys_in f (u32_at f 0 - 1))) (u32_at f 0 - 1) → read_of f ≡ refused 5
+unfolding read_of instrument_of
+refused_over f h1 h2 h3 h4 h5 =
+    let n = u32_at f 0 - 1 in
+    rw (h1, h2, h3, h4, lt-ltb 32 (string_sum (pad 16 no_key (keys_in f n)) n) h5)

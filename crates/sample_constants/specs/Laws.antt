@@ -58,7 +58,18 @@ strings_fit i few most = record { few = rw (list_length (string_in i) 0 i.string
         let r : Keyed (string_in i j) = record { sound = string_sound i j; key = rw (string_key i j) (owner_fits i j few) } in
         rw (list_at (string_in i) 0 i.string_count j past_design below, zero-add j) r
 
--- a filled table has the instrument's strings in front
+-- a filled table holds strings that can sound
+pub filled_fit : (i : Instrument) (designs : List StringDesign) → i.key_count ≤ 16 → StringsFilled i designs → i.string_count ≤ 32
+    → AllFit (take i.string_count designs)
+filled_fit i designs few f most = record { few = simp length-take (omega arith); each = each }
+  where
+    each : (j : ℕ) → j < length (take i.string_count designs) → Keyed (design_at (take i.string_count designs) j)
+    each j h =
+        let below : j < i.string_count = let k = simp length-take at h in omega (arith, k) in
+        let r : Keyed (string_in i j) = record { sound = string_sound i j; key = rw (string_key i j) (owner_fits i j few) } in
+        rw (get_or-take i.string_count designs j past_design below, f.each j below) r
+
+-- and has the instrument's strings in front
 pub filled_strings : (i : Instrument) (designs : List StringDesign) → length designs ≡ 32 → i.string_count ≤ 32
     → StringsFilled i designs → take i.string_count designs ≡ strings_of i
 filled_strings i designs long most f =

@@ -1,15 +1,17 @@
 -- Items of equal width in a list of words, one after the other: written, read, and read back. Assumes nothing.
-use Rattle.std.specs.Prelude.{◌≡◌, Bool, ◌&&◌}
+use Rattle.std.specs.Prelude.{◌≡◌, Bool, ◌&&◌, get_or, set}
 use Rattle.std.proofs.Math.Path.{refl, sym, ap}
-use Rattle.std.proofs.Common.{◌∙◌, drop_at, drop-drop}
+use Rattle.std.proofs.Common.{◌∙◌, take-suc-set, take_all, drop_at, drop-drop}
 use Rattle.std.proofs.Math.Bool.{true}
 use mathlib.Core.List.{List, [], ◌∷◌, ◌++◌, append_assoc, append-nil}
-use Prim.Native.Nat.{ℕ, zero, suc, ◌+◌, ◌*◌, ◌≤◌}
+use Prim.Native.Nat.{ℕ, zero, suc, ◌+◌, ◌*◌, ◌≤◌, ◌<◌}
 use Rattle.std.proofs.Math.Nat.{mul-suc}
 use Rattle.std.proofs.Math.Numerals.{add-one}
 use native.Mathlib.Omega.{arith}
-use Rattle.std.proofs.Math.ListN.{length, drop, length-append}
+use Rattle.std.proofs.Math.ListN.{length, take, drop, length-append}
+use Rattle.std.proofs.Math.Seq.{sets, take-suc, length-take-le}
 use Rattle.counting.specs.Every.{every, every_after, every_more}
+use Rattle.little_endian.specs.Stores.{sets_next}
 
 module _ {A : Type 0} where
   -- the words of each item, one item after the other
@@ -54,6 +56,18 @@ module _ {A : Type 0} where
           (go i (drop width w)
           ∙ ap (λ (l : List ℕ). items_of g width i (drop width w) ++ (g l ∷ [])) (drop-drop (width * i) width w ∙ ap (λ (n : ℕ). drop n w) e))
 
+  -- item i has been read into its place
+  pub items_turn : (g : List ℕ → A) (width i : ℕ) (w : List ℕ) (out : List A) (x : A) → i < length out → take i out ≡ items_of g width i w
+      → x ≡ g (drop (width * i) w) → take (i + 1) (set out i x) ≡ items_of g width (i + 1) w
+  items_turn g width i w out x h inv e =
+      ap (λ (n : ℕ). take n (set out i x)) (add-one i) ∙ take-suc-set out i x h
+      ∙ ap (λ (l : List A). l ++ (x ∷ [])) inv ∙ ap (λ (y : A). items_of g width i w ++ (y ∷ [])) e ∙ sym (items_more g width i w)
+
+  -- all have been read
+  pub items_end : (g : List ℕ → A) (width i : ℕ) (w : List ℕ) (out : List A) → length out ≡ i → take i out ≡ items_of g width i w
+      → out ≡ items_of g width i w
+  items_end g width i w out e inv = sym (take_all i out (omega arith)) ∙ inv
+
   pub joined_append : (f : A → List ℕ) (xs ys : List A) → joined f (xs ++ ys) ≡ joined f xs ++ joined f ys
   unfolding joined
   joined_append f [] ys = refl
@@ -64,6 +78,31 @@ module _ {A : Type 0} where
     unfolding joined AllOf
     joined_length [] h = omega arith
     joined_length (x ∷ xs) h = length-append (f x) (joined f xs) ∙ omega (arith, size x h.0, joined_length xs h.1, mul-suc width (length xs))
+
+    pub all_take : (i : ℕ) (xs : List A) → AllOf P xs → AllOf P (take i xs)
+    unfolding AllOf
+    all_take zero xs h = tt
+    all_take (suc i) [] h = tt
+    all_take (suc i) (x ∷ xs) h = (h.0, all_take i xs h.1)
+
+    -- item i has been written behind those before it
+    pub joined_turn : (i : ℕ) (xs : List A) (z : A) (l w : List ℕ) (a b : ℕ) → AllOf P xs → i < length xs → b ≡ a + width * i
+        → w ≡ sets l a (joined f (take i xs)) → sets w b (f (get_or xs i z)) ≡ sets l a (joined f (take (i + 1) xs))
+    unfolding joined
+    joined_turn i xs z l w a b h k at inv =
+        let n : length (take i xs) ≡ i = length-take-le i xs (omega arith) in
+        let e = joined_length (take i xs) (all_take i xs h) in
+        let there : b ≡ a + length (joined f (take i xs)) = at ∙ ap (λ (m : ℕ). a + width * m) (sym n) ∙ ap (λ (m : ℕ). a + m) (sym e) in
+        ap (λ (v : List ℕ). sets v b (f (get_or xs i z))) inv
+        ∙ sets_next l (joined f (take i xs)) (f (get_or xs i z)) a b there
+        ∙ ap (λ (v : List ℕ). sets l a (joined f (take i xs) ++ v)) (sym (append-nil (f (get_or xs i z))))
+        ∙ ap (sets l a) (sym (joined_append f (take i xs) (get_or xs i z ∷ [])))
+        ∙ ap (λ (v : List A). sets l a (joined f v)) (sym (ap (λ (m : ℕ). take m xs) (add-one i) ∙ take-suc xs i z k))
+
+    -- all have been written
+    pub joined_end : (i : ℕ) (xs : List A) (l w : List ℕ) (a : ℕ) → length xs ≤ i → w ≡ sets l a (joined f (take i xs))
+        → w ≡ sets l a (joined f xs)
+    joined_end i xs l w a h inv = inv ∙ ap (λ (v : List A). sets l a (joined f v)) (take_all i xs h)
 
     -- what was written is read back
     pub items_back : (g : List ℕ → A) → ((x : A) → P x → (r : List ℕ) → g (f x ++ r) ≡ x) → (xs : List A) → AllOf P xs → (r : List ℕ) → items_of g width (length xs) (joined f xs ++ r) ≡ xs

@@ -7,7 +7,7 @@ use crate::words::{Words, put_items};
 use score::{Event, TimedEvent};
 
 // Kinds: 0 a strike, 1 a release, 2 the pedal, whose key is 1 for down, 3 a hand damp.
-fn is_event(kind: u64, key: u64) -> bool
+pub fn is_event(kind: u64, key: u64) -> bool
     ensures { result ≡ is_event kind key }
 {
     match kind {
@@ -17,7 +17,7 @@ fn is_event(kind: u64, key: u64) -> bool
 }
 
 // An event for any numbers, as words that count for nothing may hold them.
-fn event_numbered(kind: u64, key: u64, velocity: f64) -> Event
+pub fn event_of(kind: u64, key: u64, velocity: f64) -> Event
     ensures { result ≡ event_of kind key velocity }
 {
     let number = (key % 256) as u8;
@@ -33,11 +33,11 @@ fn event_numbered(kind: u64, key: u64, velocity: f64) -> Event
 }
 
 // The event of a kind, a key and a velocity; none where the numbers are no event's.
-pub fn event_of(kind: u64, key: u64, velocity: f64) -> Option<Event>
+pub fn checked_event(kind: u64, key: u64, velocity: f64) -> Option<Event>
     ensures { result ≡ cond (is_event kind key) (Some (event_of kind key velocity)) None }
 {
     if is_event(kind, key) {
-        Some(event_numbered(kind, key, velocity))
+        Some(event_of(kind, key, velocity))
     } else {
         None
     }
@@ -76,7 +76,7 @@ impl Words for TimedEvent {
         let velocity = f64::read(words, at + 3);
         TimedEvent {
             position: u64::read(words, at),
-            event: event_numbered(kind, key, velocity),
+            event: event_of(kind, key, velocity),
         }
     }
 

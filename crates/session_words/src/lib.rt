@@ -11,7 +11,7 @@ mod words;
 ghost use Rattle.std.specs.Prelude.{◌≡◌};
 ghost use Rattle.session_words.specs.Session.{session_in, PutMeets};
 
-pub use event::event_of;
+pub use event::{checked_event, event_of, is_event};
 use session_record::Session;
 use words::Words;
 

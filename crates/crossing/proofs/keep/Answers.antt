@@ -3,7 +3,7 @@ use Rattle.crossing.proofs.Returns.{keeps_refused, keeps_written}
 use Rattle.crossing.proofs.keep.Goals as goal
 
 pub returns-in-Err : goal.returns-in-Err
-returns-in-Err c = keeps_refused c.args.outcome c.args.words.now _ _ c.in-Err.is c.refused.ensures
+returns-in-Err c = keeps_refused c.args.outcome c.args.words.now _ _ c.in-Err.is c.refused_for.ensures
 
 pub returns-in-Ok : goal.returns-in-Ok
 returns-in-Ok c =

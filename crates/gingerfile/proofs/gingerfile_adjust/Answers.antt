@@ -14,4 +14,4 @@ pub returns-in-Err-clause-gives_back : goal.returns-in-Err-clause-gives_back
 returns-in-Err-clause-gives_back c =
     let z = c.args in
     gives_back z.file.now z.keys.now z.weights.now (λ p. (c.type_inv.file p).fits)
-    (adjust_meets_is z.file.now z.keys.now z.weights.now z.out.now c.adjusted.ensures (c.refused.ensures ∙ ap written_as (sym c.in-Err.is)))
+    (adjust_meets_is z.file.now z.keys.now z.weights.now z.out.now c.adjusted.ensures (c.refused_for.ensures ∙ ap written_as (sym c.in-Err.is)))

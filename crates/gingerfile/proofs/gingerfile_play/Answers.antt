@@ -20,6 +20,6 @@ returns-in-Ok c =
 pub returns-in-Err : goal.returns-in-Err
 returns-in-Err c =
     record {
-      crosses = call_refused c.begin.ensures _ c.in-Err.is c.refused.ensures (refl, refl, refl);
+      crosses = call_refused c.begin.ensures _ c.in-Err.is c.refused_for.ensures (refl, refl, refl);
       scratch_stays = λ _. refl;
     }

@@ -10,4 +10,4 @@ pub returns-in-Ok : goal.returns-in-Ok
 returns-in-Ok c = call_made c.begin.ensures _ c.in-Ok.is c.remove-outcome.ensures c.keep.ensures
 
 pub returns-in-Err : goal.returns-in-Err
-returns-in-Err c = call_refused c.begin.ensures _ c.in-Err.is c.refused.ensures refl
+returns-in-Err c = call_refused c.begin.ensures _ c.in-Err.is c.refused_for.ensures refl

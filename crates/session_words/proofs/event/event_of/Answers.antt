@@ -2,7 +2,7 @@
 use Rattle.std.proofs.Common.{arith}
 use borrow.Author.Tests.{ne_eqb}
 use Rattle.session_words.specs.Session.{event_of}
-use Rattle.session_words.proofs.event.event_numbered.Goals as goal
+use Rattle.session_words.proofs.event.event_of.Goals as goal
 
 pub returns-in-0 : goal.returns-in-0
 unfolding event_of
