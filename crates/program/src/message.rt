@@ -9,12 +9,26 @@ use std::io::Write;
 use std::{fmt, io};
 
 impl<'a, R: System> Program<'a, R> {
-    // What is wrong with a file or a word. Where standard error does not take the line, there is nobody to tell.
+    // A piece of a line. Where standard error does not take it, there is nobody to tell, and the pieces behind it are tried all the same.
+    fn tell(&self, bytes: &[u8]) {
+        let _ = self.rt.messages().write_all(bytes);
+    }
+
+    fn tell_line(&self, what: &[u8], words: &str) {
+        self.tell(self.name.as_bytes());
+        self.tell(b": ");
+        self.tell(what);
+        self.tell(b": ");
+        self.tell(words.as_bytes());
+        self.tell(b"\n");
+    }
+
+    // What is wrong with a file or a word.
     pub fn complain<D: Display + Drop>(&self, what: &str, words: D) -> Failure
         ensures { result ≡ Wrong }
     {
-        let name = self.name;
-        let _ = write!(self.rt.messages(), "{name}: {what}: {words}\n");
+        let said = InlineText::<512>::of(words);
+        self.tell_line(what.as_bytes(), said.as_str());
         Failure::Wrong
     }
 
@@ -24,13 +38,10 @@ impl<'a, R: System> Program<'a, R> {
         ensures { result ≡ Wrong }
     {
         if word.is_empty() {
-            return self.complain(what, words);
+            self.tell_line(what.as_bytes(), words);
+        } else {
+            self.tell_line(word, words);
         }
-        let name = self.name;
-        let mut messages = self.rt.messages();
-        let _ = write!(messages, "{name}: ");
-        let _ = messages.write_all(word);
-        let _ = write!(messages, ": {words}\n");
         Failure::Wrong
     }
 
@@ -39,7 +50,8 @@ impl<'a, R: System> Program<'a, R> {
         ensures { result ≡ Wrong }
     {
         let name = self.name;
-        let _ = write!(self.rt.messages(), "usage: {name} {words}\n");
+        let line = InlineText::<256>::of(format_args!("usage: {name} {words}\n"));
+        self.tell(line.as_str().as_bytes());
         Failure::Wrong
     }
 }
