@@ -2,7 +2,6 @@
 // not written. What a function gives is what its last call answered; a refused call answers 1,000,000 and its number.
 ghost use Rattle.render.specs.Render.{Renderable};
 
-use crossing::Begun;
 use instrument::Instrument;
 use refusal::Refusal;
 use score::{Event, Score, TimedEvent};
@@ -20,9 +19,19 @@ fn number_of(answer: Result<Answer, Refusal>) -> u64 {
     }
 }
 
-// A bench asks with an accepted file and a session's words; others are refused as a record that is not sound is.
-fn begun(file: &[u8], words: &[u64]) -> Result<Begun, Refusal> {
-    crossing::begin(file, words).or(Err(Refusal::Record))
+// The instrument of a file, and zeros of one that is refused, which each call then refuses as 7.
+fn instrument_of(file: &[u8]) -> Instrument {
+    instrument_file::instrument_in(instrument_file::read(file))
+}
+
+// The score in a session's words.
+fn score_in(words: &[u64]) -> Score {
+    let session = session_words::session_from(words);
+    let events = session.events;
+    Score {
+        events,
+        count: session.count,
+    }
 }
 
 fn plays(
@@ -55,39 +64,19 @@ pub extern "C" fn session_plays(
     trace: &mut [f64],
     blocks: u64,
 ) -> u64 {
-    match begun(file, words) {
-        Ok(b) => plays(b.instrument, b.session, blocks, work, scratch, out, trace),
-        Err(refusal) => number_of(Err(refusal)),
-    }
-}
-
-fn cues(instrument: Instrument, session: Session, work: &mut [f64], times: u64) -> u64 {
-    let mut number = 0u64;
-    for _ in 0..times {
-        number = number_of(session::cue(instrument, session, work).answer);
-    }
-    number
+    let instrument = instrument_of(file);
+    let session = session_words::session_from(words);
+    plays(instrument, session, blocks, work, scratch, out, trace)
 }
 
 // `times` cues of the same session.
 #[unsafe(no_mangle)]
 pub extern "C" fn session_cues(file: &[u8], words: &[u64], work: &mut [f64], times: u64) -> u64 {
-    match begun(file, words) {
-        Ok(b) => cues(b.instrument, b.session, work, times),
-        Err(refusal) => number_of(Err(refusal)),
-    }
-}
-
-fn inserts(
-    instrument: Instrument,
-    session: Session,
-    work: &mut [f64],
-    timed: TimedEvent,
-    times: u64,
-) -> u64 {
+    let instrument = instrument_of(file);
+    let session = session_words::session_from(words);
     let mut number = 0u64;
     for _ in 0..times {
-        number = number_of(session::insert(instrument, session, work, timed).answer);
+        number = number_of(session::cue(instrument, session, work).answer);
     }
     number
 }
@@ -105,10 +94,13 @@ pub extern "C" fn session_inserts(
         position,
         event: Event::Pedal(true),
     };
-    match begun(file, words) {
-        Ok(b) => inserts(b.instrument, b.session, work, timed, times),
-        Err(refusal) => number_of(Err(refusal)),
+    let instrument = instrument_of(file);
+    let session = session_words::session_from(words);
+    let mut number = 0u64;
+    for _ in 0..times {
+        number = number_of(session::insert(instrument, session, work, timed).answer);
     }
+    number
 }
 
 // The block of the output's length that a score gives from silence; the number of forces.
@@ -144,13 +136,7 @@ pub extern "C" fn session_render(
     out: &mut [f64],
     trace: &mut [f64],
 ) -> u64 {
-    let Begun {
-        instrument,
-        session,
-    } = match begun(file, words) {
-        Ok(begun) => begun,
-        Err(_) => return 0,
-    };
+    let instrument = instrument_of(file);
     if !instrument::is_valid(instrument) {
         return 0;
     }
@@ -160,10 +146,5 @@ pub extern "C" fn session_render(
     if scratch.len() < instrument.string_count {
         return 0;
     }
-    let events = session.events;
-    let score = Score {
-        events,
-        count: session.count,
-    };
-    rendered(instrument, score, part, scratch, out, trace)
+    rendered(instrument, score_in(words), part, scratch, out, trace)
 }

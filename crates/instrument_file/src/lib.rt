@@ -10,12 +10,12 @@ ghost use Rattle.instrument_fields.specs.Ranges.{string_in_range};
 ghost use Rattle.instrument_fields.specs.Unused.{no_key, no_string};
 ghost use Rattle.instrument.specs.Valid.{string_sum};
 ghost use Rattle.instrument_file.specs.File.{offset_of, length_of, section, key_section, headed, linked, chained, measured_key, measured};
-ghost use Rattle.instrument_file.specs.File.{loop_in, fielded_key, fielded, keys_in, strings_in, instrument_of, read_of};
+ghost use Rattle.instrument_file.specs.File.{loop_in, fielded_key, fielded, keys_in, strings_in, instrument_of, no_instrument, instrument_in, read_of};
 
 use instrument::{Instrument, keys_apart, string_sum};
 use instrument_fields::{
-    KeyDesign, LoopDesign, common_in_range, key_in_range, no_key, no_string, read_common, read_key,
-    read_loop, string_in_range,
+    KeyDesign, LoopDesign, common_in_range, key_in_range, no_common, no_key, no_string,
+    read_common, read_key, read_loop, string_in_range,
 };
 use little_endian::{byte_at, part, u32_at};
 use refusal::Refusal;
@@ -241,4 +241,28 @@ pub fn read(f: &[u8]) -> Result<Instrument, Refusal>
         return Err(Refusal::KeyTwice);
     }
     Ok(sections.instrument_of(m, keys))
+}
+
+// ---- the record in an answer
+
+fn no_instrument() -> Instrument
+    ensures { result ≡ no_instrument }
+{
+    Instrument {
+        common: no_common(),
+        key_count: 0,
+        string_count: 0,
+        keys: [no_key(); 16],
+        strings: [no_string(); 32],
+    }
+}
+
+// What a program in C gets of it: the record, of zeros where the file is refused.
+pub fn instrument_in(answer: Result<Instrument, Refusal>) -> Instrument
+    ensures { result ≡ instrument_in answer }
+{
+    match answer {
+        Ok(instrument) => instrument,
+        Err(_) => no_instrument(),
+    }
 }

@@ -9,7 +9,7 @@ ghost use Rattle.little_endian.specs.Numbers.{le16, le32, le_f64};
 ghost use Rattle.instrument.specs.Valid.{string_at, valid};
 ghost use Rattle.instrument_encoding.specs.Encode.{common_bytes, string_bytes, head_bytes, key_bytes, section_bytes, encode};
 ghost use Rattle.instrument_writer.specs.Pieces.{pair_bytes, table_bytes, counted_length};
-ghost use Rattle.instrument_writer.specs.Write.{WriteMeets};
+ghost use Rattle.instrument_writer.specs.Write.{length_in, WriteMeets};
 
 use instrument::Instrument;
 use instrument_encoding::is_given;
@@ -204,4 +204,14 @@ pub fn write(i: Instrument, bytes: &mut [u8]) -> Result<usize, Refusal>
     }
     ValidInstrument { instrument: i }.put_file(bytes);
     Ok(length)
+}
+
+// The length in an answer, as a program in C gets it: 0 where the record is refused.
+pub fn length_in(answer: Result<usize, Refusal>) -> usize
+    ensures { result ≡ length_in answer }
+{
+    match answer {
+        Ok(length) => length,
+        Err(_) => 0,
+    }
 }

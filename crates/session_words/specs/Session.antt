@@ -1,7 +1,7 @@
 -- A session as words: t and the number of events; 64 events (position; kind 0 a strike, 1 a release, 2 the pedal, 3 a hand damp; key, or
 -- 1 for a pedal that is down; a strike's velocity, else 0); four cues (1 where it is kept, position, its piano); the piano now: 616 in all,
 -- as Layout counts them. Definitions only: assumes nothing.
-use Rattle.std.specs.Prelude.{◌≡◌, Bool, true, false, cond, ◌&&◌, List, [], ◌∷◌, ◌++◌, ℕ, ◌%◌, eqb, leb, Float, length, get_or, drop}
+use Rattle.std.specs.Prelude.{◌≡◌, Bool, true, false, cond, ◌&&◌, List, [], ◌∷◌, ◌++◌, ℕ, ◌%◌, eqb, leb, Float, length, get_or, drop, replicate}
 use Rattle.std.specs.Float.{binary64}
 use Rattle.std.specs.Float.Ieee.{of_bits, to_bits}
 use Rattle.counting.specs.Every.{every}
@@ -83,6 +83,10 @@ is_session w = eqb (length w) session_size && has_meaning w
 -- the session that w is, where it is one's
 unfoldable pub session_in : List ℕ → Option Session
 session_in w = cond (is_session w) (Some (session_of w)) None
+
+-- the session that w gives where nothing is asked of it: that of zeros, where w has not as many words as a session
+unfoldable pub session_from : List ℕ → Session
+session_from w = cond (eqb (length w) session_size) (session_of w) (session_of (replicate session_size 0))
 
 -- what writing s into a slice that held w promises; r is the answer, w' what the slice holds then
 pub record PutMeets (s : Session) (w : List ℕ) (r : Bool) (w' : List ℕ) : Type 0 where

@@ -9,7 +9,7 @@ mod session;
 mod words;
 
 ghost use Rattle.std.specs.Prelude.{◌≡◌};
-ghost use Rattle.session_words.specs.Session.{session_in, PutMeets};
+ghost use Rattle.session_words.specs.Session.{session_in, session_from, PutMeets};
 
 pub use event::{checked_event, event_of, is_event};
 use session_record::Session;
@@ -37,5 +37,16 @@ pub fn session_at(words: &[u64]) -> Option<Session>
         Some(Session::read(words, 0))
     } else {
         None
+    }
+}
+
+// The session that any words give, those without a meaning too. Where there are not as many as a session has, it is that of zeros.
+pub fn session_from(words: &[u64]) -> Session
+    ensures { result ≡ session_from words.now }
+{
+    if words.len() == LENGTH {
+        Session::read(words, 0)
+    } else {
+        Session::read(&[0; LENGTH], 0)
     }
 }
