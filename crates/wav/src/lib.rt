@@ -3,7 +3,7 @@
 
 ghost use Rattle.std.specs.Prelude.{◌≤◌, length};
 
-use little_endian::{f64_at, part, put_f64, put_u16, put_u32, u16_at, u32_at};
+use little_endian::{f64_at, float_of, part, put_f64, put_u16, put_u32, u16_at, u32_at};
 
 pub const HEADER: usize = 58;
 
@@ -102,10 +102,20 @@ pub fn is_mono_64(format: Format) -> bool {
     format.tag == 3 && format.channels == 1 && format.bits == 64
 }
 
-// As many floats as `samples` has places, eight bytes each; bytes that are missing count as 0.
+// The floats of places of eight bytes, as far as both go.
+fn get_whole(places: &[[u8; 8]], samples: &mut [f64]) {
+    for (place, sample) in places.iter().zip(samples) {
+        *sample = float_of(u64::from_le_bytes(*place));
+    }
+}
+
+// As many floats as `samples` has places, eight bytes each; bytes that are missing count as 0. The whole ones go first, so that each is one load.
 pub fn get_samples(bytes: &[u8], samples: &mut [f64]) {
-    let mut chunks = bytes.chunks(8);
-    for sample in samples {
-        *sample = f64_at(chunks.next().unwrap_or(&[]), 0);
+    let (places, rest) = bytes.as_chunks();
+    let count = places.len().min(samples.len());
+    get_whole(places, &mut samples[..count]);
+    let mut cut = rest.chunks(8);
+    for sample in &mut samples[count..] {
+        *sample = f64_at(cut.next().unwrap_or(&[]), 0);
     }
 }
