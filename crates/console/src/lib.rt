@@ -23,17 +23,17 @@ const MOST_SCRATCH: u64 = 256;
 
 // How many cells of each buffer a call gets. A trace of more cells than the program has is lent as all that it has: no part of a play is longer.
 #[derive(Clone, Copy)]
-struct Lent {
-    scratch: usize,
-    trace: usize,
-    work: usize,
+pub struct Lent {
+    pub scratch: usize,
+    pub trace: usize,
+    pub work: usize,
 }
 
 #[derive(Clone, Copy)]
 pub struct Console {
     instrument: Instrument,
-    session: Session,
-    lent: Lent,
+    pub session: Session,
+    pub lent: Lent,
 }
 
 // All that the program has of work memory, and of room for samples and forces.

@@ -23,8 +23,8 @@ impl Console {
 // What is left of a line's command, and the number that its parts have given so far.
 #[derive(Clone, Copy)]
 pub struct Task {
-    command: Command,
-    sum: u64,
+    pub command: Command,
+    pub sum: u64,
 }
 
 impl Task {

@@ -29,7 +29,7 @@ const STATUS: i32 = 3;
 // The arguments are `count`, from argument `first` on. Where somebody waits for the status, `awaited` is the descriptor that it goes to.
 #[derive(Clone, Copy)]
 pub struct Arguments {
-    first: usize,
+    pub first: usize,
     pub count: usize,
     awaited: Option<i32>,
 }

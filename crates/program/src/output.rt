@@ -134,16 +134,19 @@ impl Output {
 }
 
 // A file that is there, for reading and writing.
-pub(crate) fn open_update(rt: &impl System, path: &str) -> io::Result<File> {
-    OpenOptions::new().read(true).write(true).open(rt, path)
+pub fn open_update<P: FilePath>(rt: &impl System, path: P) -> io::Result<File> {
+    OpenOptions::new()
+        .read(true)
+        .write(true)
+        .open(rt, path.text())
 }
 
 // A file that is not there yet.
-pub(crate) fn create(rt: &impl System, path: &str) -> io::Result<File> {
+pub fn create<P: FilePath>(rt: &impl System, path: P) -> io::Result<File> {
     OpenOptions::new()
         .write(true)
         .create_new(true)
-        .open(rt, path)
+        .open(rt, path.text())
 }
 
 // Makes the file. A name that is taken, though the system knows no file there, is a link.

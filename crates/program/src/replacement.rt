@@ -154,19 +154,6 @@ fn put_in_place(
     fs::rename(rt, name, path).map_err(ReplaceError::Call)
 }
 
-fn try_replace(
-    program: &Program<'_, impl System>,
-    path: &str,
-    bytes: &[u8],
-) -> Result<(), ReplaceError> {
-    let (to, name) = make_beside(program, path)?;
-    let name = name.as_str();
-    put_in_place(program.rt, name, path, to, bytes).map_err(|e| {
-        let _ = fs::remove_file(program.rt, name);
-        e
-    })
-}
-
 // The bytes as the file at the path; where it fails it has been said, what was there stays, and nothing is left beside it.
 pub fn replace<P: FilePath>(
     program: &Program<'_, impl System>,
@@ -174,5 +161,12 @@ pub fn replace<P: FilePath>(
     bytes: &[u8],
 ) -> Result<(), Failure> {
     let path = path.text();
-    try_replace(program, path, bytes).map_err(|e| program.complain(path, e))
+    let (to, name) = make_beside(program, path).map_err(|e| program.complain(path, e))?;
+    let name = name.as_str();
+    put_in_place(program.rt, name, path, to, bytes).map_err(|e| {
+        // it is said before the file beside it goes
+        let failure = program.complain(path, e);
+        let _ = fs::remove_file(program.rt, name);
+        failure
+    })
 }

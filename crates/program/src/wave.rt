@@ -7,8 +7,8 @@ use std::os::unix::fs::FileExt;
 
 #[derive(Drop)]
 pub struct Wave {
-    out: Output,
-    rate: u64,
+    pub out: Output,
+    pub rate: u64,
     pub samples: u64,
 }
 

@@ -92,10 +92,11 @@ fn rehearse_embedded(program: &Program<'_, impl System>) -> Result<(), Failure> 
         forces: None,
     };
     let places = places::open_places(program, names.wave, names.forces, &[])?;
+    let mut reader = Reader::holding(embedded::script());
     let played = rehearsal::play_script(
         program.rt,
         instrument,
-        Reader::holding(embedded::script()),
+        &mut reader,
         io::empty(),
         true,
         places,
@@ -125,10 +126,11 @@ fn rehearse_on(
     ];
     output::check_streams(program, &inputs)?;
     let places = places::open_places(program, names.wave, names.forces, &inputs)?;
+    let mut reader = Reader::new();
     let played = rehearsal::play_script(
         program.rt,
         loaded.instrument,
-        Reader::new(),
+        &mut reader,
         source,
         false,
         places,

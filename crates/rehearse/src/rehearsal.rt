@@ -21,7 +21,7 @@ const PART: u64 = 8192;
 struct Rehearsal<'a, R: System, S: Read + Drop> {
     console: Console,
     progress: Progress<'a, R>,
-    reader: Reader<65536>,
+    reader: &'a mut Reader<65536>,
     source: S,
     wave: Wave,
     forces: Option<Output>,
@@ -100,16 +100,19 @@ impl<'a, R: System, S: Read + Drop> Rehearsal<'a, R, S> {
         }
     }
 
-    // The same. A read may wait or fail, so all answers are out before it; time that goes by in waiting is no work.
+    // The same. A read may wait or fail, so all answers are out before it; time that goes by in waiting is no work. Where they cannot be written the line is read all the same, as before,
+    // and thrown away.
     fn next_line(&mut self) -> Result<Option<Result<Command, Fault>>, Failed> {
-        self.progress.live(self.console.position())?;
+        let lived = self.progress.live(self.console.position());
         if !self.reader.is_waiting() {
+            lived?;
             return self.ask();
         }
-        self.progress.flush()?;
-        let line = self.ask()?;
+        let flushed = lived.and(self.progress.flush());
+        let line = self.ask();
         self.progress.rest();
-        Ok(line)
+        flushed?;
+        line
     }
 
     // A play that the WAV's header cannot count is a bad line; one of more samples than any is a bad line of its own.
@@ -166,10 +169,10 @@ pub fn rate_of(instrument: Instrument) -> u64 {
 
 // The program's memory: document 01's largest instrument has five parts of 132,384 cells. The opening's line comes first, then the script's; all answers are out at the end.
 #[inline(never)]
-pub fn play_script<R: System, S: Read + Drop>(
-    rt: &R,
+pub fn play_script<'a, R: System, S: Read + Drop>(
+    rt: &'a R,
     instrument: Instrument,
-    reader: Reader<65536>,
+    reader: &'a mut Reader<65536>,
     source: S,
     is_shown: bool,
     places: Places,
@@ -200,5 +203,7 @@ pub fn play_script<R: System, S: Read + Drop>(
         bytes: [0; 16384],
     };
     let rehearsed = rehearsal.rehearse(&mut memory);
-    rehearsed.and(rehearsal.progress.flush())
+    // that the last answers cannot be written is not told, as before
+    let _ = rehearsal.progress.flush();
+    rehearsed
 }

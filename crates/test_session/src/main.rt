@@ -9,7 +9,7 @@ mod sums;
 use console::Memory;
 use replay::{Replay, Tally};
 use std::io;
-use text::lines::{LineError, Reader};
+use text::lines::Reader;
 
 fn report(rt: &impl Print, tally: Tally) -> io::Result<()> {
     print!(rt;
@@ -30,10 +30,10 @@ fn main(rt: HostRuntime) -> io::Result<()> {
     let mut reader = Reader::<65536>::new();
     let mut source = rt.stdin();
     for _ in 0..u64::MAX {
-        match reader.next_line(&mut source) {
+        // of a line that the buffer does not hold the end is taken, as if it stood alone
+        match reader.next_end(&mut source) {
             Ok(Some(line)) => replay.take(line),
-            Ok(None) | Err(LineError::Failed(_)) => break,
-            Err(LineError::TooLong) => replay.skip(),
+            Ok(None) | Err(_) => break,
         }
     }
     report(&rt, replay.tally())

@@ -127,7 +127,7 @@ impl<'a> Replay<'a> {
     }
 
     // A stored line that cannot be read.
-    pub fn skip(&mut self) {
+    fn skip(&mut self) {
         self.tally.unreadable = self.tally.unreadable.wrapping_add(1);
     }
 }

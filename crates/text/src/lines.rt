@@ -1,5 +1,5 @@
 // The lines of a file, of standard input or of any other source, through a buffer of N bytes.
-ghost use Rattle.std.specs.Prelude.{◌+◌, ◌≤◌, IfSome};
+ghost use Rattle.std.specs.Prelude.{◌+◌, ◌≤◌, IfOk, IfSome, length};
 
 use std::io::Read;
 use std::ops::Range;
@@ -7,7 +7,7 @@ use std::{io, mem};
 
 // Why a line cannot be given: the buffer does not hold it, and it was dropped up to its end; or a read failed, or was interrupted by a signal.
 // The next call goes on behind the line, or reads again.
-#[derive(Debug, Drop)]
+#[derive(Clone, Copy, Debug)]
 pub enum LineError {
     TooLong,
     Failed(io::Error),
@@ -21,7 +21,7 @@ enum Cut {
 }
 
 // Of the buffer the bytes from start up to end are read and not given out yet.
-#[derive(Drop)]
+#[derive(Clone, Copy)]
 pub struct Reader<const N: usize> {
     bytes: [u8; N],
     start: usize,
@@ -99,17 +99,8 @@ impl<const N: usize> Reader<N> {
         Ok(())
     }
 
-    // A line, unless its beginning was dropped. Of a remark whose beginning was dropped nothing is left.
-    fn whole(&mut self, line: Range<usize>) -> Result<Option<Range<usize>>, LineError> {
-        match mem::take(&mut self.cut) {
-            None => Ok(Some(line)),
-            Some(Cut::Remark) => Ok(Some(0..0)),
-            Some(Cut::Line) => Err(LineError::TooLong),
-        }
-    }
-
     // The line before a feed. A carriage return at its end is no part of it.
-    fn fed(&mut self, feed: usize) -> Result<Option<Range<usize>>, LineError>
+    fn fed(&mut self, feed: usize) -> Range<usize>
         requires { self.old.start + feed + 1 ≤ self.old.end }
     {
         let start = self.start;
@@ -117,37 +108,57 @@ impl<const N: usize> Reader<N> {
         let text = &bytes[start..start + feed];
         let length = text.strip_suffix(b"\r").unwrap_or(text).len();
         self.start = start + feed + 1;
-        self.whole(start..start + length)
+        start..start + length
     }
 
     // What stands behind the last line feed, if anything does.
-    fn last(&mut self) -> Result<Option<Range<usize>>, LineError> {
+    fn last(&mut self) -> Option<Range<usize>> {
         if self.start == self.end && self.cut.is_none() {
-            return Ok(None);
+            return None;
         }
         let rest = self.start..self.end;
         self.start = self.end;
-        self.whole(rest)
+        Some(rest)
     }
 
-    // Where the next line stands. A source may give bytes for ever: a proof wants a bound on the turns.
-    fn find<R: Read>(&mut self, source: &mut R) -> Result<Option<Range<usize>>, LineError> {
+    // Where the next line stands, or what is left of it. A source may give bytes for ever: a proof wants a bound on the turns.
+    fn find<R: Read>(&mut self, source: &mut R) -> io::Result<Option<Range<usize>>> {
         for _ in 0..u64::MAX {
             if let Some(feed) = self.feed() {
-                return self.fed(feed);
+                return Ok(Some(self.fed(feed)));
             }
             if self.is_ended {
                 break;
             }
-            self.refill(source).map_err(|e| LineError::Failed(e))?;
+            self.refill(source)?;
         }
-        self.last()
+        Ok(self.last())
+    }
+
+    // A line, unless its beginning was dropped. Of a remark whose beginning was dropped nothing is left.
+    fn whole(&mut self, line: Option<Range<usize>>) -> Result<Option<Range<usize>>, LineError> {
+        match mem::take(&mut self.cut) {
+            None => Ok(line),
+            Some(Cut::Remark) => Ok(Some(0..0)),
+            Some(Cut::Line) => Err(LineError::TooLong),
+        }
     }
 
     // The next line, or None at the end: the source is read, one read at a time, only while the buffer holds no whole line.
     pub fn next_line<R: Read>(&mut self, source: &mut R) -> Result<Option<&[u8]>, LineError> {
-        let line = self.find(source)?;
+        let found = self.find(source).map_err(|e| LineError::Failed(e))?;
+        let line = self.whole(found)?;
         let bytes = &self.bytes[..];
         Ok(line.and_then(|place| bytes.get(place)))
+    }
+
+    // The same, but of a line whose beginning was dropped, a remark too, it gives the end: what stands behind the last full buffer.
+    pub fn next_end<R: Read>(&mut self, source: &mut R) -> io::Result<Option<&[u8]>>
+        ensures { IfOk result (λ end. IfSome end (λ text. length text.now ≤ N)) }
+    {
+        let end = self.find(source)?;
+        self.cut = None;
+        let bytes = &self.bytes[..];
+        Ok(end.and_then(|place| bytes.get(place)))
     }
 }
