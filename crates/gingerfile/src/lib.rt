@@ -8,6 +8,8 @@ ghost use Rattle.std.specs.Prelude.{◌≡◌, ◌&&◌, eqb, length};
 ghost use Rattle.refusal.specs.Refusal.{number_of, number_in};
 ghost use Rattle.decimator.specs.Decimate.{output_length, DecimateMeets};
 ghost use Rattle.instrument_file.specs.File.{read_of};
+ghost use Rattle.instrument_writer.specs.Write.{WriteMeets};
+ghost use Rattle.weights.specs.Weights.{weighted_by};
 ghost use Rattle.session.specs.Calls.{ScratchStays, OpenMeets, PlayMeets, CueMeets, GoMeets, InsertMeets, RemoveMeets};
 ghost use Rattle.session_words.specs.Layout.{session_size};
 ghost use Rattle.session_words.specs.Session.{event_of, is_event, is_session};
@@ -44,6 +46,14 @@ pub extern "C" fn gingerfile_read(file: &[u8]) -> Sizes
 // Each call on a session is one match on what `begin` gives. A function that took the session's call as a closure would save an arm
 // and need the clauses of each closure beside those of the call.
 
+// In a frame of its own, as `cued` below.
+#[inline(never)]
+fn opened(instrument: Instrument, work: &mut [f64]) -> Outcome
+    ensures { OpenMeets instrument work.old result work.new }
+{
+    session::open(instrument, work)
+}
+
 // The words may hold anything before; 7 where there are not 616.
 #[unsafe(no_mangle)]
 pub extern "C" fn gingerfile_open(file: &[u8], words: &mut [u64], work: &mut [f64]) -> Report
@@ -51,7 +61,7 @@ pub extern "C" fn gingerfile_open(file: &[u8], words: &mut [u64], work: &mut [f6
         (λ i s o. OpenMeets i work.old o work.new) }
 {
     match crossing::begin_open(file, words) {
-        Ok(instrument) => crossing::keep(words, session::open(instrument, work)),
+        Ok(instrument) => crossing::keep(words, opened(instrument, work)),
         Err(refusal) => crossing::refused_for(refusal),
     }
 }
@@ -209,6 +219,19 @@ pub extern "C" fn gingerfile_energies(file: &[u8], words: &[u64], work: &[f64]) 
     }
 }
 
+// In a frame of its own, as `cued` below.
+#[inline(never)]
+fn written(
+    instrument: Instrument,
+    keys: &[u8],
+    weights: &[f64],
+    out: &mut [u8],
+) -> Result<usize, Refusal>
+    ensures { WriteMeets (weighted_by instrument keys.now weights.now) out.old result out.new }
+{
+    instrument_writer::write(weights::set_weights(instrument, keys, weights), out)
+}
+
 fn adjusted(file: &[u8], keys: &[u8], weights: &[f64], out: &mut [u8]) -> Result<usize, Refusal>
     ensures { Adjusts file.now keys.now weights.now out.old result out.new }
 {
@@ -216,7 +239,7 @@ fn adjusted(file: &[u8], keys: &[u8], weights: &[f64], out: &mut [u8]) -> Result
     if !weights::are_whole(instrument, keys, weights) {
         return Err(Refusal::Record);
     }
-    instrument_writer::write(weights::set_weights(instrument, keys, weights), out)
+    written(instrument, keys, weights, out)
 }
 
 // The file with other weights, pair by pair: the key of that number gets the weight, of a key named twice the later one. 7 where

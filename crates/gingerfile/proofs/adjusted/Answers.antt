@@ -22,4 +22,4 @@ pub returns : goal.returns
 returns c =
     let z = c.args in
     adjusts_written z.file.now z.keys.now z.weights.now z.out.now _ (sym c.read.ensures ∙ c.in_ok-instrument.was)
-    (sym c.are_whole.ensures ∙ c.if-not-are_whole.false) (rw c.set_weights.ensures at c.write.ensures)
+    (sym c.are_whole.ensures ∙ c.if-not-are_whole.false) c.written.ensures

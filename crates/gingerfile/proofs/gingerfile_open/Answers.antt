@@ -7,7 +7,7 @@ pub keep-requires : goal.keep-requires
 keep-requires c = open_long c.begin_open.ensures _ c.in-Ok.is
 
 pub returns-in-Ok : goal.returns-in-Ok
-returns-in-Ok c = open_made c.begin_open.ensures _ c.in-Ok.is c.open.ensures c.keep.ensures
+returns-in-Ok c = open_made c.begin_open.ensures _ c.in-Ok.is c.opened.ensures c.keep.ensures
 
 pub returns-in-Err : goal.returns-in-Err
 returns-in-Err c = open_refused c.begin_open.ensures _ c.in-Err.is c.refused_for.ensures refl
