@@ -6,9 +6,8 @@ mod number;
 mod word;
 
 pub use number::{Bits, NumberError, hexadecimal_of, number_of, real_of};
-pub use word::{Words, word_at, words_of};
-
 use std::fmt::InlineText;
+pub use word::{Words, word_at, words_of};
 
 // Stores a number's digits at a place of the line, as many as there is room for, and gives the place behind them.
 pub fn put_number(line: &mut [u8], at: usize, n: u64) -> usize {
