@@ -21,7 +21,9 @@ fn replace_out(program: &Program<'_, impl System>, out: &str, file: &[u8]) -> Re
     program.answer_of(out, line.as_str())
 }
 
-// A record that the writer refuses is a refused instrument, as a file is that the reader refuses. The bytes hold the longest file, so it refuses none by 20.
+// A record that the writer refuses is a refused instrument, as a file is that the reader refuses. The bytes hold the longest file, so it refuses none by 20. Its frame stays apart from those
+// that read.
+#[inline(never)]
 fn write_adjusted(
     program: &Program<'_, impl System>,
     given: Arguments,

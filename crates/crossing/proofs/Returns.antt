@@ -17,7 +17,6 @@ use Rattle.session_record.specs.declared.Session.{Session}
 use Rattle.session_words.specs.Layout.{session_size}
 use Rattle.session_words.specs.Session.{session_of, is_session, session_in, PutMeets}
 use Rattle.crossing.specs.declared.Begun.{Begun}
-use Rattle.crossing.specs.declared.NotBegun.{NotBegun}
 use Rattle.crossing.specs.declared.Report.{Report}
 use Rattle.crossing.specs.Crossing.{refused_by, report_of, handed_refusal, refused_at, Begins, Opens, Keeps}
 
@@ -98,12 +97,11 @@ handed_on e (Err x) h = ap Err (sym h)
 
 module _ (f w : List ℕ) where
   module _ (e : Refusal) (read : read_of f ≡ Err e) where
-    pub begins_refused : Begins f w (Err (record { refusal = e; instrument = None }))
+    pub begins_refused : Begins f w (Err e)
     begins_refused =
         record {
           number = file_refuses e (is_session w) ∙ ap (λ r. handed_refusal (number_in r) (is_session w)) (sym read);
-          instrument = ap instrument_in (sym read);
-          session = λ b k. absurd (cc k);
+          begun = λ b k. absurd (cc k);
         }
 
     pub opens_refused : Opens f w (Err e)
@@ -124,17 +122,11 @@ module _ (f w : List ℕ) where
     begins s told =
         record {
           number = number_is (is_session w) true (session_told w s told).0 0 none_refuses;
-          instrument = is_i;
-          session = λ b k. let same : b ≡ record { instrument = i; session = s } = cc k in rw same (session_told w s told).1;
+          begun = λ b k. let same : b ≡ record { instrument = i; session = s } = cc k in rw same (is_i, (session_told w s told).1);
         }
 
-    pub begins_not : session_in w ≡ None → Begins f w (Err (record { refusal = Record; instrument = Some i }))
-    begins_not told =
-        record {
-          number = number_is (is_session w) false (none_told w told) 7 rest_refuses;
-          instrument = is_i;
-          session = λ b k. absurd (cc k);
-        }
+    pub begins_not : session_in w ≡ None → Begins f w (Err Record)
+    begins_not told = record { number = number_is (is_session w) false (none_told w told) 7 rest_refuses; begun = λ b k. absurd (cc k) }
 
     pub opens : length w ≡ session_size → Opens f w (Ok i)
     opens h =

@@ -1,12 +1,12 @@
 -- What a call from C or Rust promises: refusals 1 to 6 of the file it is handed; 7 where its words are no session's; else the session's call
 -- on the session that the words are, whose outcome is answered in numbers and written over the words. Definitions only: assumes nothing.
-use Rattle.std.specs.Prelude.{◌≡◌, Bool, cond, List, ℕ, ◌*◌, eqb, length, unwrap_or, Result, Ok, Err}
+use Rattle.std.specs.Prelude.{◌≡◌, Bool, cond, List, ℕ, ◌*◌, eqb, length, Result, Ok, Err}
 use Rattle.refusal.specs.declared.Refusal.{Refusal}
 use Rattle.refusal.specs.Refusal.{number_of, number_in}
 use Rattle.std.specs.Float.{binary64}
 use Rattle.std.specs.Float.Ieee.{of_bits}
 use Rattle.instrument.specs.declared.Instrument.{Instrument}
-use Rattle.instrument_file.specs.File.{no_instrument, read_of, instrument_in}
+use Rattle.instrument_file.specs.File.{read_of, instrument_in}
 use Rattle.instrument.specs.Work.{counted_part}
 use Rattle.machine.specs.Refusals.{scratch_cells}
 use Rattle.session_record.specs.declared.Session.{Session}
@@ -16,7 +16,6 @@ use Rattle.session.specs.declared.Outcome.{Outcome}
 use Rattle.session_words.specs.Layout.{session_size}
 use Rattle.session_words.specs.Session.{words_of, session_of, is_session}
 use Rattle.crossing.specs.declared.Begun.{Begun}
-use Rattle.crossing.specs.declared.NotBegun.{NotBegun}
 use Rattle.crossing.specs.declared.Report.{Report}
 use Rattle.crossing.specs.declared.Sizes.{Sizes}
 
@@ -60,20 +59,10 @@ handed_refusal file whole = cond (eqb file 0) (cond whole 0 7) file
 abbrev pub refused_at : List ℕ → Bool → ℕ
 refused_at f whole = handed_refusal (number_in (read_of f)) whole
 
--- the number in what a call begins with, 0 where nothing is refused; and the instrument, zeros where there is none
-abbrev pub begun_number : Result Begun NotBegun → ℕ
-begun_number (Ok b) = 0
-begun_number (Err e) = number_of e.refusal
-
-abbrev pub begun_instrument : Result Begun NotBegun → Instrument
-begun_instrument (Ok b) = b.instrument
-begun_instrument (Err e) = unwrap_or e.instrument no_instrument
-
--- what a call begins with, of the file f and the words w: the instrument is the file's, whatever the words are
-pub record Begins (f w : List ℕ) (r : Result Begun NotBegun) : Type 0 where
-  pub number : begun_number r ≡ refused_at f (is_session w)
-  pub instrument : begun_instrument r ≡ instrument_in (read_of f)
-  pub session : (b : Begun) → r ≡ Ok b → b.session ≡ session_of w
+-- what a call begins with, of the file f and the words w
+pub record Begins (f w : List ℕ) (r : Result Begun Refusal) : Type 0 where
+  pub number : number_in r ≡ refused_at f (is_session w)
+  pub begun : (b : Begun) → r ≡ Ok b → (b.instrument ≡ instrument_in (read_of f)) × (b.session ≡ session_of w)
 
 -- and open, whose words may hold anything before
 pub record Opens (f w : List ℕ) (r : Result Instrument Refusal) : Type 0 where

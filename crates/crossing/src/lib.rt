@@ -46,13 +46,6 @@ pub struct Begun {
     pub session: Session,
 }
 
-// What refuses the file or the words; and the instrument in the file, which is there where the words alone are refused.
-#[derive(Clone, Copy)]
-pub struct NotBegun {
-    pub refusal: Refusal,
-    pub instrument: Option<Instrument>,
-}
-
 // The report of a refusal, by its number.
 pub fn refused(number: u64) -> Report
     ensures { result ≡ refused_by number }
@@ -116,25 +109,18 @@ fn handed_session(words: &[u64]) -> Option<Session>
     session_words::session_at(words)
 }
 
-// What every call on a session does first. The file's refusal is met before that of the words.
-pub fn begin(file: &[u8], words: &[u64]) -> Result<Begun, NotBegun>
+// What every call on a session does first. The file's refusal is met before that of the words. In a frame of its own, which is gone where the call itself is made.
+#[inline(never)]
+pub fn begin(file: &[u8], words: &[u64]) -> Result<Begun, Refusal>
     ensures { Begins file.now words.now result }
 {
-    match instrument_file::read(file) {
-        Ok(instrument) => match handed_session(words) {
-            Some(session) => Ok(Begun {
-                instrument,
-                session,
-            }),
-            None => Err(NotBegun {
-                refusal: Refusal::Record,
-                instrument: Some(instrument),
-            }),
-        },
-        Err(refusal) => Err(NotBegun {
-            refusal,
-            instrument: None,
+    let instrument = instrument_file::read(file)?;
+    match handed_session(words) {
+        Some(session) => Ok(Begun {
+            instrument,
+            session,
         }),
+        None => Err(Refusal::Record),
     }
 }
 

@@ -26,9 +26,8 @@ use Rattle.energies.specs.Energy.{EnergiesMeet}
 use Rattle.session_words.specs.Layout.{session_size}
 use Rattle.session_words.specs.Session.{session_of, is_session, is_event, event_of}
 use Rattle.crossing.specs.declared.Begun.{Begun}
-use Rattle.crossing.specs.declared.NotBegun.{NotBegun}
 use Rattle.crossing.specs.declared.Report.{Report}
-use Rattle.crossing.specs.Crossing.{refused_by, report_of, handed_refusal, refused_at, begun_number, begun_instrument, Begins, Opens, Keeps, Crosses}
+use Rattle.crossing.specs.Crossing.{refused_by, report_of, handed_refusal, refused_at, Begins, Opens, Keeps, Crosses}
 use Rattle.crossing.proofs.Returns.{nothing_refused, more_decides, refused_already, file_refuses, rest_refuses, none_refuses, long}
 use Rattle.gingerfile.specs.declared.KeyEnergies.{KeyEnergies}
 use Rattle.gingerfile.specs.Adjust.{adjust_number, Adjusts, written_as, AdjustMeets, GivesBack}
@@ -73,33 +72,31 @@ module _ (kind key : ℕ) (v : Float) where
       go false h t = h
 
 -- after `begin`
-module _ {f w : List ℕ} {b : Result Begun NotBegun} (m : Begins f w b) where
-  number_of_error : (e : NotBegun) → b ≡ Err e → number_of e.refusal ≡ refused_at f (is_session w)
-  number_of_error e is = ap begun_number (sym is) ∙ m.number
+module _ {f w : List ℕ} {b : Result Begun Refusal} (m : Begins f w b) where
+  number_of_error : (e : Refusal) → b ≡ Err e → number_of e ≡ refused_at f (is_session w)
+  number_of_error e is = ap number_in (sym is) ∙ m.number
 
-  module _ (e : NotBegun) (is : b ≡ Err e) {Stays : Type 0} {Promise : Instrument → Session → Outcome → Type 0} {r : Report} where
-    pub call_refused : r ≡ refused_by (number_of e.refusal) → Stays → Crosses f (is_session w) w r w Stays Promise
-    call_refused = crosses_refused (number_of e.refusal) (number_of_error e is) (number_not_zero e.refusal)
+  module _ (e : Refusal) (is : b ≡ Err e) {Stays : Type 0} {Promise : Instrument → Session → Outcome → Type 0} {r : Report} where
+    pub call_refused : r ≡ refused_by (number_of e) → Stays → Crosses f (is_session w) w r w Stays Promise
+    call_refused = crosses_refused (number_of e) (number_of_error e is) (number_not_zero e)
 
-    pub insert_refused : (kind key : ℕ) → r ≡ refused_by (number_of e.refusal) → Stays → Crosses f (is_session w && is_event kind key) w r w Stays Promise
+    pub insert_refused : (kind key : ℕ) → r ≡ refused_by (number_of e) → Stays → Crosses f (is_session w && is_event kind key) w r w Stays Promise
     insert_refused kind key =
         let n = number_of_error e is in
-        crosses_refused (number_of e.refusal)
-        (n ∙ refused_already (number_in (read_of f)) (is_session w) (is_event kind key) (λ z. number_not_zero e.refusal (n ∙ z)))
-        (number_not_zero e.refusal)
+        crosses_refused (number_of e)
+        (n ∙ refused_already (number_in (read_of f)) (is_session w) (is_event kind key) (λ z. number_not_zero e (n ∙ z)))
+        (number_not_zero e)
 
   module _ (g : Begun) (is : b ≡ Ok g) where
     accepted : 0 ≡ refused_at f (is_session w)
-    accepted = ap begun_number (sym is) ∙ m.number
+    accepted = ap number_in (sym is) ∙ m.number
 
     pub begun_long : length w ≡ session_size
     begun_long = long w (nothing_refused (number_in (read_of f)) (is_session w) (sym accepted)).1
 
     -- what holds of what `begin` gave holds of what the file and the words are
     begun_is : (P : Instrument → Session → Type 0) → P g.instrument g.session → P (instrument_in (read_of f)) (session_of w)
-    begun_is P p =
-        subst (P (instrument_in (read_of f))) (m.session g is)
-        (subst (λ (i : Instrument). P i g.session) (ap begun_instrument (sym is) ∙ m.instrument) p)
+    begun_is P p = subst (P (instrument_in (read_of f))) (m.begun g is).1 (subst (λ (i : Instrument). P i g.session) (m.begun g is).0 p)
 
     -- whether an event's numbers are one decides where file and words are accepted
     event_decides : (kind key : ℕ) → cond (is_event kind key) 0 7 ≡ refused_at f (is_session w && is_event kind key)
@@ -123,9 +120,9 @@ module _ {f w : List ℕ} {b : Result Begun NotBegun} (m : Begins f w b) where
     pub asks_made : {work : List Float} {a : Result Energies Refusal} → EnergiesMeet g.instrument g.session work a → Asks f w work a
     asks_made {work} {a} p = record { refuses = λ z. absurd (z (sym accepted)); asks = λ _. begun_is (λ i s. EnergiesMeet i s work a) p }
 
-  pub asks_refused : (e : NotBegun) → b ≡ Err e → (work : List Float) → Asks f w work (Err e.refusal)
+  pub asks_refused : (e : Refusal) → b ≡ Err e → (work : List Float) → Asks f w work (Err e)
   asks_refused e is work =
-      let n = number_of_error e is in record { refuses = λ _. n; asks = λ z. absurd (number_not_zero e.refusal (n ∙ z)) }
+      let n = number_of_error e is in record { refuses = λ _. n; asks = λ z. absurd (number_not_zero e (n ∙ z)) }
 
 module _ {f w : List ℕ} {work : List Float} {a : Result Energies Refusal} (m : Asks f w work a) where
   pub energies_cross : {r : KeyEnergies} → r ≡ flat_in a → EnergiesCross f w work r

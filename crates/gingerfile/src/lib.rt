@@ -85,7 +85,7 @@ pub extern "C" fn gingerfile_play(
             let outcome = session::play(begun.instrument, begun.session, work, scratch, out, trace);
             crossing::keep(words, outcome)
         }
-        Err(unbegun) => crossing::refused_for(unbegun.refusal),
+        Err(refusal) => crossing::refused_for(refusal),
     }
 }
 
@@ -107,7 +107,7 @@ pub extern "C" fn gingerfile_cue(file: &[u8], words: &mut [u64], work: &mut [f64
             let outcome = cued(begun.instrument, begun.session, work);
             crossing::keep(words, outcome)
         }
-        Err(unbegun) => crossing::refused_for(unbegun.refusal),
+        Err(refusal) => crossing::refused_for(refusal),
     }
 }
 
@@ -128,7 +128,7 @@ pub extern "C" fn gingerfile_go(
             let outcome = session::go(begun.instrument, begun.session, work, scratch, p);
             crossing::keep(words, outcome)
         }
-        Err(unbegun) => crossing::refused_for(unbegun.refusal),
+        Err(refusal) => crossing::refused_for(refusal),
     }
 }
 
@@ -155,7 +155,7 @@ pub extern "C" fn gingerfile_insert(
             }
             None => crossing::refused_for(Refusal::Record),
         },
-        Err(unbegun) => crossing::refused_for(unbegun.refusal),
+        Err(refusal) => crossing::refused_for(refusal),
     }
 }
 
@@ -174,7 +174,7 @@ pub extern "C" fn gingerfile_remove(
             let outcome = session::remove(begun.instrument, begun.session, work, index);
             crossing::keep(words, outcome)
         }
-        Err(unbegun) => crossing::refused_for(unbegun.refusal),
+        Err(refusal) => crossing::refused_for(refusal),
     }
 }
 
@@ -203,10 +203,8 @@ fn no_energies(refusal: Refusal) -> KeyEnergies
 fn energies_of(file: &[u8], words: &[u64], work: &[f64]) -> Result<Energies, Refusal>
     ensures { Asks file.now words.now work.now result }
 {
-    match crossing::begin(file, words) {
-        Ok(begun) => energies::key_energies(begun.instrument, begun.session, work),
-        Err(unbegun) => Err(unbegun.refusal),
-    }
+    let begun = crossing::begin(file, words)?;
+    energies::key_energies(begun.instrument, begun.session, work)
 }
 
 #[unsafe(no_mangle)]
@@ -219,7 +217,7 @@ pub extern "C" fn gingerfile_energies(file: &[u8], words: &[u64], work: &[f64]) 
     }
 }
 
-// In a frame of its own, as `cued` below.
+// In a frame of its own, as `cued`.
 #[inline(never)]
 fn written(
     instrument: Instrument,

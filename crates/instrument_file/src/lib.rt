@@ -181,8 +181,8 @@ impl<'a> Sections<'a> {
         out
     }
 
-    fn strings_of(self, keys: [KeyDesign; 16]) -> [LoopDesign; 32]
-        requires { (keys ≡ pad 16 no_key (keys_in self.file.now self.keys)) × (string_sum keys self.keys ≤ 32) }
+    fn strings_of(self, keys: &[KeyDesign; 16]) -> [LoopDesign; 32]
+        requires { (keys.now ≡ pad 16 no_key (keys_in self.file.now self.keys)) × (string_sum keys.now self.keys ≤ 32) }
         ensures { result ≡ pad 32 no_string (strings_in self.entry.file.now self.entry.keys) }
     {
         let mut out = [no_string(); 32];
@@ -196,8 +196,8 @@ impl<'a> Sections<'a> {
         out
     }
 
-    fn instrument_of(self, m: usize, keys: [KeyDesign; 16]) -> Instrument
-        requires { (keys ≡ pad 16 no_key (keys_in self.file.now self.keys)) × (m ≡ string_sum keys self.keys) × (m ≤ 32) }
+    fn instrument_of(self, m: usize, keys: &[KeyDesign; 16]) -> Instrument
+        requires { (keys.now ≡ pad 16 no_key (keys_in self.file.now self.keys)) × (m ≡ string_sum keys.now self.keys) × (m ≤ 32) }
         ensures { result ≡ instrument_of self.entry.file.now self.entry.keys }
     {
         let common = read_common(self.section(0));
@@ -206,7 +206,7 @@ impl<'a> Sections<'a> {
             common,
             key_count: self.keys,
             string_count: m,
-            keys,
+            keys: *keys,
             strings,
         }
     }
@@ -240,7 +240,7 @@ pub fn read(f: &[u8]) -> Result<Instrument, Refusal>
     if !keys_apart(&keys[..n]) {
         return Err(Refusal::KeyTwice);
     }
-    Ok(sections.instrument_of(m, keys))
+    Ok(sections.instrument_of(m, &keys))
 }
 
 // ---- the record in an answer

@@ -82,7 +82,8 @@ fn check_own(program: &Program<'_, impl System>, rate: u64) -> Result<(), Failur
     }
 }
 
-// No file is read, so only answers and messages are in use.
+// No file is read, so only answers and messages are in use. Its frame, with its reader, stays apart from that of a rehearsal of files.
+#[inline(never)]
 fn rehearse_embedded(program: &Program<'_, impl System>) -> Result<(), Failure> {
     let instrument = instrument_input::accept(program, "the instrument", embedded::instrument())?;
     check_own(program, rehearsal::rate_of(instrument))?;

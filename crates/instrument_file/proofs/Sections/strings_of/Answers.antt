@@ -8,27 +8,27 @@ use Rattle.instrument_file.proofs.Filled.{strings_none, strings_room, strings_tu
 use Rattle.instrument_file.proofs.Sections.strings_of.Goals as goal
 
 pub loop-k-init : goal.loop-k-init
-loop-k-init c = (length-take-le c.args.self.keys c.args.keys (omega arith), refl, strings_none c.requires.0 c.requires.1 c.no_string-out.ensures)
+loop-k-init c = (length-take-le c.args.self.keys c.args.keys.now (omega arith), refl, strings_none c.requires.0 c.requires.1 c.no_string-out.ensures)
 
 pub overflow_add-end : goal.overflow_add-end
 overflow_add-end c =
     let i = c.loop-k.k in
     let room = strings_room c.loop-k.invariant.2 (omega (arith, c.loop-k.invariant.0)) in
-    let same = ap (λ (d : KeyDesign). d.strings) (get_or-take c.args.self.keys c.args.keys i past_key (omega (arith, c.loop-k.invariant.0))) in
+    let same = ap (λ (d : KeyDesign). d.strings) (get_or-take c.args.self.keys c.args.keys.now i past_key (omega (arith, c.loop-k.invariant.0))) in
     record { fits = omega (arith, same, room) }
 
 pub read_strings-requires : goal.read_strings-requires
 read_strings-requires c =
     let i = c.loop-k.k in
     let room = strings_room c.loop-k.invariant.2 (omega (arith, c.loop-k.invariant.0)) in
-    let same = ap (λ (d : KeyDesign). d.strings) (get_or-take c.args.self.keys c.args.keys i past_key (omega (arith, c.loop-k.invariant.0))) in
+    let same = ap (λ (d : KeyDesign). d.strings) (get_or-take c.args.self.keys c.args.keys.now i past_key (omega (arith, c.loop-k.invariant.0))) in
     omega (arith, same, room)
 
 pub loop-k-preserved : goal.loop-k-preserved
 loop-k-preserved c =
     let i = c.loop-k.k in
     let room = strings_room c.loop-k.invariant.2 (omega (arith, c.loop-k.invariant.0)) in
-    let same = ap (λ (d : KeyDesign). d.strings) (get_or-take c.args.self.keys c.args.keys i past_key (omega (arith, c.loop-k.invariant.0))) in (
+    let same = ap (λ (d : KeyDesign). d.strings) (get_or-take c.args.self.keys c.args.keys.now i past_key (omega (arith, c.loop-k.invariant.0))) in (
       c.loop-k.invariant.0,
       refl,
       strings_turn c.loop-k.invariant.2 (omega (arith, c.loop-k.invariant.0)) c.section.array_long same
@@ -47,5 +47,5 @@ pub slice_bounds-out-end : goal.slice_bounds-out-end
 slice_bounds-out-end c =
     let i = c.loop-k.k in
     let room = strings_room c.loop-k.invariant.2 (omega (arith, c.loop-k.invariant.0)) in
-    let same = ap (λ (d : KeyDesign). d.strings) (get_or-take c.args.self.keys c.args.keys i past_key (omega (arith, c.loop-k.invariant.0))) in
+    let same = ap (λ (d : KeyDesign). d.strings) (get_or-take c.args.self.keys c.args.keys.now i past_key (omega (arith, c.loop-k.invariant.0))) in
     omega (arith, same, room, c.section.array_long)
