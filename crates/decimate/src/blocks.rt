@@ -73,7 +73,7 @@ struct Window {
 const BLOCK: usize = 63;
 
 // The largest window: 126 outputs' worth of 64 samples, and 64 samples.
-const WINDOW: usize = 8128;
+pub const WINDOW: usize = 8128;
 
 // The window of the block whose first output starts from sample `at`.
 fn window_of(plan: Plan, at: usize) -> Window
@@ -136,21 +136,12 @@ pub fn append_all(
     source: &mut Source,
     plan: Plan,
     taps: &[f64; 127],
+    samples: &mut [f64; WINDOW],
+    outputs: &mut [f64; 256],
+    bytes: &mut [u8; 16384],
 ) -> Result<(), BlockError> {
-    let mut samples = [0.0; WINDOW];
-    let mut outputs = [0.0; 256];
-    let mut bytes = [0u8; 16384];
     for done in (0..plan.outputs()).step_by(BLOCK) {
-        append_block(
-            wave,
-            source,
-            plan,
-            taps,
-            done,
-            &mut samples,
-            &mut outputs,
-            &mut bytes,
-        )?;
+        append_block(wave, source, plan, taps, done, samples, outputs, bytes)?;
     }
     Ok(())
 }

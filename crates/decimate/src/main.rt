@@ -5,7 +5,7 @@
 mod blocks;
 mod wave_in;
 
-use blocks::{BlockError, Plan};
+use blocks::{BlockError, Plan, WINDOW};
 use program::arguments::{Arguments, Failure};
 use program::input::{Input, Source};
 use program::message::TransferError;
@@ -57,9 +57,41 @@ fn write_out(
     plan: Plan,
     taps: &[f64; 127],
     out: Output,
+    samples: &mut [f64; WINDOW],
+    outputs: &mut [f64; 256],
+    bytes: &mut [u8; 16384],
 ) -> Result<(), BlockError> {
     let mut wave = wave::begin(out, plan.thinned_rate()).map_err(BlockError::Write)?;
-    blocks::append_all(&mut wave, source, plan, taps)
+    blocks::append_all(&mut wave, source, plan, taps, samples, outputs, bytes)
+}
+
+// Makes OUT and says what was written. The memory for the blocks is there before OUT is: where the stack has no room for it, no empty OUT is left.
+#[inline(never)]
+fn write_wave(
+    program: &Program<'_, impl System>,
+    source: &mut Source,
+    plan: Plan,
+    taps: &[f64; 127],
+    input: &str,
+    output: &str,
+) -> Result<(), Failure> {
+    let mut samples = [0.0; WINDOW];
+    let mut outputs = [0.0; 256];
+    let mut bytes = [0u8; 16384];
+    let out = output::open(program, output)?;
+    match write_out(
+        source,
+        plan,
+        taps,
+        out,
+        &mut samples,
+        &mut outputs,
+        &mut bytes,
+    ) {
+        Ok(()) => report(program, plan),
+        Err(BlockError::Read) => { Err(program.complain(input, "it could not be read to its end")) }
+        Err(BlockError::Write(e)) => Err(program.complain(output, TransferError(e))),
+    }
 }
 
 // Writes OUT once all that it is made of is known to be there, and says what was written, or what is wrong.
@@ -90,13 +122,8 @@ fn decimate(
     ];
     output::check_streams(program, &inputs)?;
     output::check_apart(program, output, &inputs, "the report goes")?;
-    let out = output::open(program, output)?;
     let plan = Plan { signal, factor };
-    match write_out(&mut source, plan, &taps, out) {
-        Ok(()) => report(program, plan),
-        Err(BlockError::Read) => { Err(program.complain(input, "it could not be read to its end")) }
-        Err(BlockError::Write(e)) => Err(program.complain(output, TransferError(e))),
-    }
+    write_wave(program, &mut source, plan, &taps, input, output)
 }
 
 fn report(program: &Program<'_, impl System>, plan: Plan) -> Result<(), Failure> {
