@@ -13,8 +13,8 @@
             a thread, or around the calls: _mm_setcsr(0x1f80) of <xmmintrin.h>; or one by one fesetround(FE_TONEAREST),
             _MM_SET_FLUSH_ZERO_MODE(_MM_FLUSH_ZERO_OFF) and _MM_SET_DENORMALS_ZERO_MODE(_MM_DENORMALS_ZERO_OFF).
    Stack    GINGERFILE_STACK bytes below the frame that a call is made in, which is more than any call was measured to take:
-            read 16,544, open 23,200, adjust 24,512, cue 42,240, go 45,656, energies 45,776, play 47,208, remove 48,656,
-            insert 48,688, decimate 96. embed/c/stack.c measures them, and makes each call with exactly the promised stack.
+            read 18,488, adjust 19,048, open 23,560, energies 36,744, cue 36,888, insert 39,400, play 39,960, remove 42,648,
+            go 43,416, decimate 96. embed/c/stack.c measures them, and makes each call with exactly the promised stack.
    Threads  any number of them may make calls at the same time, each on its own words, work, scratch, output and trace; the
             instrument's file is only read and may be shared. A call allocates nothing, takes no lock and makes no system call.
 

@@ -16,7 +16,6 @@ use Rattle.session.specs.declared.Outcome.{Outcome}
 use Rattle.session_record.specs.declared.Session.{Session}
 use Rattle.session_words.specs.Layout.{session_size}
 use Rattle.session_words.specs.Session.{session_of, is_session, session_in, PutMeets}
-use Rattle.crossing.specs.declared.Begun.{Begun}
 use Rattle.crossing.specs.declared.Report.{Report}
 use Rattle.crossing.specs.Crossing.{refused_by, report_of, handed_refusal, refused_at, Begins, Opens, Keeps}
 

@@ -115,13 +115,13 @@ pub fn begin(file: &[u8], words: &[u64]) -> Result<Begun, Refusal>
     ensures { Begins file.now words.now result }
 {
     let instrument = instrument_file::read(file)?;
-    match handed_session(words) {
-        Some(session) => Ok(Begun {
-            instrument,
-            session,
-        }),
-        None => Err(Refusal::Record),
-    }
+    let Some(session) = handed_session(words) else {
+        return Err(Refusal::Record);
+    };
+    Ok(Begun {
+        instrument,
+        session,
+    })
 }
 
 // The same where the words are to hold a new session: their number alone counts.

@@ -11,12 +11,12 @@ returns-in_err-instrument c =
     subst (Begins z.file.now z.words.now) (handed_on e _ c.from_residual.ensures.1)
     (begins_refused z.file.now z.words.now e (sym c.read.ensures ∙ c.in_err-instrument.was))
 
-pub returns-in-Some : goal.returns-in-Some
-returns-in-Some c =
+pub returns : goal.returns
+returns c =
     let z = c.args in
     begins z.file.now z.words.now _ (sym c.read.ensures ∙ c.in_ok-instrument.was) _ (sym c.handed_session.ensures ∙ c.in-Some.is)
 
-pub returns-in-None : goal.returns-in-None
-returns-in-None c =
+pub returns-in_default : goal.returns-in_default
+returns-in_default c =
     let z = c.args in
-    begins_not z.file.now z.words.now _ (sym c.read.ensures ∙ c.in_ok-instrument.was) (sym c.handed_session.ensures ∙ c.in-None.is)
+    begins_not z.file.now z.words.now _ (sym c.read.ensures ∙ c.in_ok-instrument.was) (sym c.handed_session.ensures ∙ c.in_default.is)

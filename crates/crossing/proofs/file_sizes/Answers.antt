@@ -1,5 +1,5 @@
 -- A refused file gives its number and zeros, an accepted one its own numbers and what the calls on it ask for. Assumes nothing.
-use Rattle.std.proofs.Common.{sym, ◌∙◌, refl}
+use Rattle.std.proofs.Common.{sym, ◌∙◌}
 use Rattle.crossing.specs.Crossing.{sizes_of}
 use Rattle.crossing.proofs.file_sizes.Goals as goal
 
