@@ -100,7 +100,7 @@ impl<'a, R: System, S: Read + Drop> Rehearsal<'a, R, S> {
         }
     }
 
-    // The same. A read may wait or fail, so all answers are out before it; time that goes by in waiting is no work. Where they cannot be written the line is read all the same, as before,
+    // The same. A read may wait or fail, so all answers are out before it; time that goes by in waiting is no work. Where they cannot be written the line is read all the same,
     // and thrown away.
     fn next_line(&mut self) -> Result<Option<Result<Command, Fault>>, Failed> {
         let lived = self.progress.live(self.console.position());
@@ -203,7 +203,7 @@ pub fn play_script<'a, R: System, S: Read + Drop>(
         bytes: [0; 16384],
     };
     let rehearsed = rehearsal.rehearse(&mut memory);
-    // that the last answers cannot be written is not told, as before
+    // Where the last answers cannot be written, nobody is told.
     let _ = rehearsal.progress.flush();
     rehearsed
 }

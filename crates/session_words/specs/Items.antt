@@ -105,7 +105,8 @@ module _ {A : Type 0} where
     joined_end i xs l w a h inv = inv ∙ ap (λ (v : List A). sets l a (joined f v)) (take_all i xs h)
 
     -- what was written is read back
-    pub items_back : (g : List ℕ → A) → ((x : A) → P x → (r : List ℕ) → g (f x ++ r) ≡ x) → (xs : List A) → AllOf P xs → (r : List ℕ) → items_of g width (length xs) (joined f xs ++ r) ≡ xs
+    pub items_back : (g : List ℕ → A) → ((x : A) → P x → (r : List ℕ) → g (f x ++ r) ≡ x) → (xs : List A) → AllOf P xs
+        → (r : List ℕ) → items_of g width (length xs) (joined f xs ++ r) ≡ xs
     unfolding joined items_of AllOf
     items_back g back [] h r = refl
     items_back g back (x ∷ xs) h r =
