@@ -10,15 +10,29 @@ use little_endian::part;
 use program::arguments::{Arguments, Failure};
 use program::system::{Program, System};
 use program::{arguments, replacement, streams};
+use refusal::Refusal;
 use std::fmt::InlineText;
 
-// Where the file is in its place, that is answered, and else why not. OUT may be the instrument: no input is in use.
+// Where the file is in its place, that is answered, and else why not. OUT may be the instrument: no input is in use. Its frame, with
+// the new file's name, is not there yet while the record is written.
+#[inline(never)]
 fn replace_out(program: &Program<'_, impl System>, out: &str, file: &[u8]) -> Result<(), Failure> {
     replacement::check(program, out, &[], "the answer goes")?;
     replacement::replace(program, out, file)?;
     let length = file.len();
     let line = InlineText::<64>::of(format_args!("ok {length}"));
     program.answer_of(out, line.as_str())
+}
+
+// The file of the instrument with the weights, at the start of the bytes. Its frame, with copies of the record, is gone before a file is made.
+#[inline(never)]
+fn encode(
+    rt: &impl System,
+    given: Arguments,
+    instrument: Instrument,
+    bytes: &mut [u8; LONGEST_FILE],
+) -> Result<usize, Refusal> {
+    instrument_writer::write(pairs::with_pairs(rt, given, instrument), bytes)
 }
 
 // A record that the writer refuses is a refused instrument, as a file is that the reader refuses. The bytes hold the longest file, so it refuses none by 20. Its frame stays apart from those
@@ -32,7 +46,7 @@ fn write_adjusted(
     out: &str,
 ) -> Result<(), Failure> {
     let mut bytes = [0u8; LONGEST_FILE];
-    match instrument_writer::write(pairs::with_pairs(program.rt, given, instrument), &mut bytes) {
+    match encode(program.rt, given, instrument, &mut bytes) {
         Ok(length) => replace_out(program, out, part(&bytes, 0, length)),
         Err(refusal) => Err(pairs::refuse(program, given, instrument, path, refusal)),
     }

@@ -178,7 +178,9 @@ fn refuse_weight(
     let _ = program.answer_of(path, line.as_str());
 }
 
-// The writer's refusal, and which weight it is due to: the record test itself tells, asked with each pair alone.
+// The writer's refusal, and which weight it is due to: the record test itself tells, asked with each pair alone. Its frame, with copies of the
+// record, is there on refusal alone.
+#[inline(never)]
 pub fn refuse(
     program: &Program<'_, impl System>,
     given: Arguments,

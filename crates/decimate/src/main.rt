@@ -40,6 +40,8 @@ fn factor_of(word: &[u8]) -> Result<usize, FactorError> {
     }
 }
 
+// Its frame, with the word's bytes, is gone when the work begins.
+#[inline(never)]
 fn factor_given(program: &Program<'_, impl System>, given: Arguments) -> Result<usize, Failure> {
     let mut bytes = [0u8; 4096];
     let word = given.word(program.rt, 2, &mut bytes);
@@ -126,6 +128,8 @@ fn decimate(
     write_wave(program, &mut source, plan, &taps, input, output)
 }
 
+// Its frame, with the line's text, comes when the work is done.
+#[inline(never)]
 fn report(program: &Program<'_, impl System>, plan: Plan) -> Result<(), Failure> {
     match program.answer(plan) {
         Ok(()) => Ok(()),

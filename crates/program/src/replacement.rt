@@ -82,31 +82,34 @@ fn folder_of(path: &str) -> &str {
     }
 }
 
-// The name `.PROGRAM-NUMBER` behind the folder's path. Every system takes a name of its length, and where a path has no room for all of it, its last bytes are the name: it fits where any
-// other does.
-fn name_beside(folder: &str, program: &str, number: u64) -> PathText {
+// Puts the name `.PROGRAM-NUMBER` behind the folder's path. Every system takes a name of its length, and where a path has no room for all of it, its last bytes are the name: it fits where
+// any other does.
+fn put_name(text: &mut PathText, folder: &str, program: &str, number: u64) {
     let name = InlineText::<64>::of(format_args!(".{program}-{number}"));
     let name = name.as_str();
     let room = LONGEST_PATH.saturating_sub(folder.len());
     let skipped = name.len().saturating_sub(room);
     let name = name.get(skipped..).unwrap_or("");
-    InlineText::of(format_args!("{folder}{name}"))
+    *text = PathText::new();
+    let _ = fmt::Write::write_str(text, folder);
+    let _ = fmt::Write::write_str(text, name);
 }
 
-// Makes a file in the path's folder. A name that is taken, or is the path's own, is passed over.
+// Makes a file in the path's folder, and puts its name into the lent text. A name that is taken, or is the path's own, is passed over.
 fn make_beside(
     program: &Program<'_, impl System>,
     path: &str,
-) -> Result<(File, PathText), ReplaceError> {
+    text: &mut PathText,
+) -> Result<File, ReplaceError> {
     let folder = folder_of(path);
     if LONGEST_PATH < folder.len() {
         return Err(ReplaceError::NoneFree);
     }
     for number in NAMES..2 * NAMES {
-        let name = name_beside(folder, program.name, number);
-        if name.as_str() != path {
-            match create(program.rt, name.as_str()) {
-                Ok(file) => return Ok((file, name)),
+        put_name(text, folder, program.name, number);
+        if text.as_str() != path {
+            match create(program.rt, text.as_str()) {
+                Ok(file) => return Ok(file),
                 Err(e) if e.kind() == io::ErrorKind::AlreadyExists => {}
                 Err(e) => return Err(ReplaceError::Call(e)),
             }
@@ -161,8 +164,9 @@ pub fn replace<P: FilePath>(
     bytes: &[u8],
 ) -> Result<(), Failure> {
     let path = path.text();
-    let (to, name) = make_beside(program, path).map_err(|e| program.complain(path, e))?;
-    let name = name.as_str();
+    let mut text = PathText::new();
+    let to = make_beside(program, path, &mut text).map_err(|e| program.complain(path, e))?;
+    let name = text.as_str();
     put_in_place(program.rt, name, path, to, bytes).map_err(|e| {
         // it is said before the file beside it goes
         let failure = program.complain(path, e);

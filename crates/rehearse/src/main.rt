@@ -15,7 +15,6 @@ use program::system::{Program, System};
 use program::{arguments, input, output, streams};
 use progress::Failed;
 use std::fmt::{InlineText, Write};
-use std::io;
 use text::lines::Reader;
 
 // What the script and the outputs are called.
@@ -93,12 +92,12 @@ fn rehearse_embedded(program: &Program<'_, impl System>) -> Result<(), Failure> 
         forces: None,
     };
     let places = places::open_places(program, names.wave, names.forces, &[])?;
-    let mut reader = Reader::holding(embedded::script());
+    let mut reader = Reader::new();
     let played = rehearsal::play_script(
         program.rt,
         instrument,
         &mut reader,
-        io::empty(),
+        embedded::script(),
         true,
         places,
     );
@@ -156,6 +155,8 @@ fn forces_of<'b>(
     Ok(Some(path))
 }
 
+// Its frame, with their names, stays apart from that of the phrase.
+#[inline(never)]
 fn rehearse_files(program: &Program<'_, impl System>, given: Arguments) -> Result<(), Failure> {
     let mut instrument = [0u8; 4096];
     let instrument = given.path(program, 0, "INSTRUMENT", &mut instrument)?;

@@ -18,7 +18,7 @@ pub enum Failed {
 pub struct Progress<'a, R: System> {
     rt: &'a R,
     answers: Answers<'a, R>,
-    is_shown: bool,
+    pub is_shown: bool,
     pub line: u64,
     due: u64,
 }

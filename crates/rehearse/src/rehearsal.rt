@@ -18,17 +18,17 @@ const PART: u64 = 8192;
 
 // `bytes` holds what is written of samples and forces.
 #[derive(Drop)]
-struct Rehearsal<'a, R: System, S: Read + Drop> {
+struct Rehearsal<'a, 'p, R: System, S: Read + Drop> {
     console: Console,
-    progress: Progress<'a, R>,
-    reader: &'a mut Reader<65536>,
+    progress: &'p mut Progress<'a, R>,
+    reader: &'p mut Reader<65536>,
     source: S,
     wave: Wave,
     forces: Option<Output>,
     bytes: [u8; 16384],
 }
 
-impl<'a, R: System, S: Read + Drop> Rehearsal<'a, R, S> {
+impl<'a, 'p, R: System, S: Read + Drop> Rehearsal<'a, 'p, R, S> {
     // ---- what was played
 
     // The samples and forces of a play go into their files.
@@ -101,10 +101,10 @@ impl<'a, R: System, S: Read + Drop> Rehearsal<'a, R, S> {
     }
 
     // The same. A read may wait or fail, so all answers are out before it; time that goes by in waiting is no work. Where they cannot be written the line is read all the same,
-    // and thrown away.
+    // and thrown away. A script that is shown is the program's own, and no read of it waits.
     fn next_line(&mut self) -> Result<Option<Result<Command, Fault>>, Failed> {
         let lived = self.progress.live(self.console.position());
-        if !self.reader.is_waiting() {
+        if self.progress.is_shown || !self.reader.is_waiting() {
             lived?;
             return self.ask();
         }
@@ -195,7 +195,7 @@ pub fn play_script<'a, R: System, S: Read + Drop>(
     let (wave, forces) = begin_files(places, rate_of(instrument))?;
     let mut rehearsal = Rehearsal {
         console,
-        progress,
+        progress: &mut progress,
         reader,
         source,
         wave,
