@@ -32,6 +32,23 @@ impl<'a, R: System> Program<'a, R> {
         Failure::Wrong
     }
 
+    // What is wrong with a line of a file.
+    pub fn complain_at<D: Display + Drop>(&self, what: &str, line: u64, words: D) -> Failure
+        ensures { result ≡ Wrong }
+    {
+        let number = InlineText::<32>::of(line);
+        let said = InlineText::<512>::of(words);
+        self.tell(self.name.as_bytes());
+        self.tell(b": ");
+        self.tell(what.as_bytes());
+        self.tell(b": line ");
+        self.tell(number.as_str().as_bytes());
+        self.tell(b": ");
+        self.tell(said.as_str().as_bytes());
+        self.tell(b"\n");
+        Failure::Wrong
+    }
+
     // Of a word of the command line, by itself, or by what it stands for where there is none to show: it is empty, or longer than any that is meant. Its bytes are shown as they are, which
     // may be no text.
     pub fn complain_of_word(&self, word: &[u8], what: &str, words: &str) -> Failure

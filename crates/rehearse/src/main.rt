@@ -14,7 +14,6 @@ use program::output::InUse;
 use program::system::{Program, System};
 use program::{arguments, input, output, streams};
 use progress::Failed;
-use std::fmt::{InlineText, Write};
 use text::lines::Reader;
 
 // What the script and the outputs are called.
@@ -39,10 +38,7 @@ impl<'a> Names<'a> {
 fn tell(program: &Program<'_, impl System>, names: Names<'_>, failed: Failed) -> Failure {
     match failed {
         Failed::Script { line, error } => {
-            let error = TransferError(error);
-            let mut words = InlineText::<128>::new();
-            let _ = write!(words, "line {line}: {error}");
-            program.complain(names.script, words.as_str())
+            program.complain_at(names.script, line, TransferError(error))
         }
         Failed::Answers(error) => program.complain("standard output", TransferError(error)),
         Failed::Wave(error) => program.complain(names.wave, TransferError(error)),
