@@ -40,7 +40,7 @@ fn factor_of(word: &[u8]) -> Result<usize, FactorError> {
     }
 }
 
-// Its frame, with the word's bytes, is gone when the work begins.
+// FACTOR, or what is wrong with it. The frame with the word's bytes is gone when the work begins.
 #[inline(never)]
 fn factor_given(program: &Program<'_, impl System>, given: Arguments) -> Result<usize, Failure> {
     let mut bytes = [0u8; 4096];
@@ -128,7 +128,7 @@ fn decimate(
     write_wave(program, &mut source, plan, &taps, input, output)
 }
 
-// Its frame, with the line's text, comes when the work is done.
+// Says what was done. The frame with the line's text comes when the work is done.
 #[inline(never)]
 fn report(program: &Program<'_, impl System>, plan: Plan) -> Result<(), Failure> {
     match program.answer(plan) {

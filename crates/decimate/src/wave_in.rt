@@ -117,7 +117,7 @@ pub fn find_samples(source: &mut Source) -> Result<Signal, WaveFlaw> {
     })
 }
 
-// The 127 taps from a file by its name, which is closed again, and what the system knows of it. Its frame, with the file's bytes, is gone when the work begins.
+// The 127 taps from a file by its name, which is closed again, and what the system knows of it. The frame with the file's bytes is gone when the work begins.
 #[inline(never)]
 pub fn read_taps(
     program: &Program<'_, impl System>,

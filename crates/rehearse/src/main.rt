@@ -151,7 +151,7 @@ fn forces_of<'b>(
     Ok(Some(path))
 }
 
-// Its frame, with their names, stays apart from that of the phrase.
+// The frame with the four names stays apart from that of the phrase.
 #[inline(never)]
 fn rehearse_files(program: &Program<'_, impl System>, given: Arguments) -> Result<(), Failure> {
     let mut instrument = [0u8; 4096];
