@@ -8,45 +8,94 @@ use std::fmt::{Display, InlineText};
 use std::io::Write;
 use std::{fmt, io};
 
+// A piece of a line. Where standard error does not take it, there is nobody to tell, and the pieces behind it are tried all the same.
+fn tell(rt: &impl System, bytes: &[u8]) {
+    let _ = rt.messages().write_all(bytes);
+}
+
+// What a value shows, on its way out. Text is held as long as 512 bytes hold it: a value that shows no more than that is one piece.
+#[derive(Drop)]
+struct Shown<'a, R: System> {
+    rt: &'a R,
+    held: InlineText<512>,
+}
+
+impl<'a, R: System> Shown<'a, R> {
+    fn let_go(&mut self) {
+        tell(self.rt, self.held.as_str().as_bytes());
+        self.held = InlineText::new();
+    }
+}
+
+impl<'a, R: System> fmt::Write for Shown<'a, R> {
+    fn write_str(&mut self, s: &str) -> fmt::Result {
+        if 512 - self.held.as_str().len() < s.len() {
+            self.let_go();
+        }
+        if 512 < s.len() {
+            tell(self.rt, s.as_bytes());
+            return Ok(());
+        }
+        fmt::Write::write_str(&mut self.held, s)
+    }
+}
+
+// What a value shows, as a part of a line. The frame, with the text that is held, is there for no longer than that takes.
+#[inline(never)]
+fn tell_shown<D: Display + Drop>(rt: &impl System, value: D) {
+    let mut shown = Shown {
+        rt,
+        held: InlineText::new(),
+    };
+    let _ = fmt::Write::write_fmt(&mut shown, format_args!("{value}"));
+    shown.let_go();
+}
+
 impl<'a, R: System> Program<'a, R> {
-    // A piece of a line. Where standard error does not take it, there is nobody to tell, and the pieces behind it are tried all the same.
     fn tell(&self, bytes: &[u8]) {
-        let _ = self.rt.messages().write_all(bytes);
+        tell(self.rt, bytes)
     }
 
-    fn tell_line(&self, what: &[u8], words: &str) {
+    // A line's beginning: who speaks, and of what.
+    fn tell_name(&self, what: &[u8]) {
         self.tell(self.name.as_bytes());
         self.tell(b": ");
         self.tell(what);
+    }
+
+    fn tell_line(&self, what: &[u8], words: &str) {
+        self.tell_name(what);
         self.tell(b": ");
         self.tell(words.as_bytes());
         self.tell(b"\n");
+    }
+
+    // A line's end: what is wrong.
+    fn tell_words<D: Display + Drop>(&self, words: D) -> Failure
+        ensures { result ≡ Wrong }
+    {
+        self.tell(b": ");
+        tell_shown(self.rt, words);
+        self.tell(b"\n");
+        Failure::Wrong
     }
 
     // What is wrong with a file or a word.
     pub fn complain<D: Display + Drop>(&self, what: &str, words: D) -> Failure
         ensures { result ≡ Wrong }
     {
-        let said = InlineText::<512>::of(words);
-        self.tell_line(what.as_bytes(), said.as_str());
-        Failure::Wrong
+        self.tell_name(what.as_bytes());
+        self.tell_words(words)
     }
 
     // What is wrong with a line of a file.
     pub fn complain_at<D: Display + Drop>(&self, what: &str, line: u64, words: D) -> Failure
         ensures { result ≡ Wrong }
     {
-        let number = InlineText::<32>::of(line);
-        let said = InlineText::<512>::of(words);
-        self.tell(self.name.as_bytes());
-        self.tell(b": ");
-        self.tell(what.as_bytes());
+        self.tell_name(what.as_bytes());
         self.tell(b": line ");
-        self.tell(number.as_str().as_bytes());
-        self.tell(b": ");
-        self.tell(said.as_str().as_bytes());
-        self.tell(b"\n");
-        Failure::Wrong
+        tell_shown(self.rt, line);
+        self.tell_words(words)
     }
 
     // Of a word of the command line, by itself, or by what it stands for where there is none to show: it is empty, or longer than any that is meant. Its bytes are shown as they are, which
@@ -62,13 +111,22 @@ impl<'a, R: System> Program<'a, R> {
         Failure::Wrong
     }
 
-    // The words that the command line was to have.
+    // The words that the command line was to have. The line is one piece where 256 bytes hold it.
     pub fn explain(&self, words: &str) -> Failure
         ensures { result ≡ Wrong }
     {
         let name = self.name;
-        let line = InlineText::<256>::of(format_args!("usage: {name} {words}\n"));
-        self.tell(line.as_str().as_bytes());
+        let mut line = InlineText::<256>::new();
+        match fmt::Write::write_fmt(&mut line, format_args!("usage: {name} {words}\n")) {
+            Ok(()) => self.tell(line.as_str().as_bytes()),
+            Err(_) => {
+                self.tell(b"usage: ");
+                self.tell(name.as_bytes());
+                self.tell(b" ");
+                self.tell(words.as_bytes());
+                self.tell(b"\n");
+            }
+        }
         Failure::Wrong
     }
 }
